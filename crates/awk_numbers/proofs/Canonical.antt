@@ -1,6 +1,8 @@
 -- What the operators give are numbers of the profile, and equal numbers are one value.
 use Rattle.std.proofs.Common.{ℕ, zero, suc, ◌≡◌, ◌*◌, ◌/◌, ◌%◌, ◌^◌, ◌≤◌, ◌==◌, Bool, true, false, cond, T, not, ◌&&◌}
-use Rattle.std.proofs.Common.{ℤ, pos, negsuc, ◌+ℤ◌, ◌-ℤ◌, ◌*ℤ◌, neg_ℤ, unsigned_abs, int_div, int_rem, nat_abs, Result, Ok, Err, is_ok, refl, sym, ap, subst, ◌∙◌, arith, true≢false, div-add-mod', Less, Equal, Greater, is_eq}
+use Rattle.std.proofs.Common.{ℤ, pos, negsuc, ◌+ℤ◌, ◌-ℤ◌, ◌*ℤ◌, neg_ℤ, unsigned_abs, int_div, int_rem, nat_abs, Result}
+use Rattle.std.proofs.Common.{Ok, Err, is_ok, refl, sym, ap, subst, ◌∙◌, arith, true≢false, div-add-mod', Less, Equal}
+use Rattle.std.proofs.Common.{Greater, is_eq}
 use Rattle.std.proofs.lemmas.Int.{ints}
 use Rattle.std.proofs.lemmas.Bool.{and_parts, leb-true, ltb-true, ne_eqb}
 use Rattle.std.proofs.lemmas.Float.{eq_flip, eq-not_lt}
@@ -47,7 +49,8 @@ settled_number (fin s m p) z f e = go (is_counted (m * up p) (down p)) refl e
         → chosen b s (m * up p / down p) (fin s m p) ≡ Ok z → IsNumber profile.Double z
     go true c h =
         let few : m * up p / down p ≤ 2 ^ 53 = leb-true _ _ (and_parts _ _ c).1 in
-        subst (λ (k : Number). IsNumber profile.Double k) (ap number_in h) (subst (λ (n : ℕ). n ≤ 2 ^ 53) (sym (signed_size s (m * up p / down p))) few)
+        subst (λ (k : Number). IsNumber profile.Double k) (ap number_in h)
+        (subst (λ (n : ℕ). n ≤ 2 ^ 53) (sym (signed_size s (m * up p / down p))) few)
     go false c h = subst (λ (k : Number). IsNumber profile.Double k) (ap number_in h) (f, rw c refl)
 
 in_range : (w : ℤ) → is_in_range w ≡ true → unsigned_abs w ≤ 2 ^ 63
@@ -57,7 +60,8 @@ in_range (negsuc n) e = omega (arith, ltb-true n (2 ^ 63) e)
 ranged_number : (w : ℤ) (z : Number) → ranged w ≡ Ok z → IsNumber profile.Whole z
 ranged_number w z e = go (is_in_range w) (in_range w) e
   where
-    go : (b : Bool) → (b ≡ true → unsigned_abs w ≤ 2 ^ 63) → (if b then Ok (Whole w) else Err OutOfRange) ≡ Ok z → IsNumber profile.Whole z
+    go : (b : Bool) → (b ≡ true → unsigned_abs w ≤ 2 ^ 63) → (if b then Ok (Whole w) else Err OutOfRange) ≡ Ok z
+        → IsNumber profile.Whole z
     go true f h = subst (λ (k : Number). IsNumber profile.Whole k) (ap number_in h) (f refl)
     go false f h = absurd (true≢false (sym (ap is_ok h)))
 
@@ -90,8 +94,10 @@ behind numbers true r z f h = absurd (true≢false (sym (ap is_ok h)))
 behind numbers false r z f h = f h
 
 pub closed_div : Closed op.div
-closed_div profile.Double x y z p q e = behind profile.Double (is_zero y) _ z (λ h. settled_number _ z (div-fits binary64 (double_of x) (double_of y)) h) e
-closed_div profile.Whole (Whole m) (Whole n) z p q e = behind profile.Whole (is_int_zero n) _ z (λ h. ranged_number (int_div m n) z h) e
+closed_div profile.Double x y z p q e = behind profile.Double (is_zero y) _ z
+    (λ h. settled_number _ z (div-fits binary64 (double_of x) (double_of y)) h) e
+closed_div profile.Whole (Whole m) (Whole n) z p q e = behind profile.Whole (is_int_zero n) _ z
+    (λ h. ranged_number (int_div m n) z h) e
 closed_div profile.Whole (Whole m) (Real y) z p q e = absurd q
 closed_div profile.Whole (Real x) y z p q e = absurd p
 
@@ -100,12 +106,15 @@ mod_small a b k h = omega (arith, h, div-add-mod' a b)
 
 rem_small : (m n : ℤ) → unsigned_abs m ≤ 2 ^ 63 → unsigned_abs (int_rem m n) ≤ 2 ^ 63
 rem_small (pos a) n p = mod_small a (nat_abs n) (2 ^ 63) p
-rem_small (negsuc a) n p = subst (λ (k : ℕ). k ≤ 2 ^ 63) (sym (signed_size true (suc a % nat_abs n))) (mod_small (suc a) (nat_abs n) (2 ^ 63) p)
+rem_small (negsuc a) n p = subst (λ (k : ℕ). k ≤ 2 ^ 63) (sym (signed_size true (suc a % nat_abs n)))
+    (mod_small (suc a) (nat_abs n) (2 ^ 63) p)
 
 pub closed_rem : Closed op.rem
-closed_rem profile.Double x y z p q e = behind profile.Double (is_zero y) _ z (λ h. settled_number _ z (rem-fits binary64 (double_of x) (double_of y) (double_fits x p)) h) e
+closed_rem profile.Double x y z p q e = behind profile.Double (is_zero y) _ z
+    (λ h. settled_number _ z (rem-fits binary64 (double_of x) (double_of y) (double_fits x p)) h) e
 closed_rem profile.Whole (Whole m) (Whole n) z p q e =
-    behind profile.Whole (is_int_zero n) _ z (λ h. subst (λ (k : Number). IsNumber profile.Whole k) (ap number_in h) (rem_small m n p)) e
+    behind profile.Whole (is_int_zero n) _ z (λ h. subst (λ (k : Number). IsNumber profile.Whole k) (ap number_in h)
+    (rem_small m n p)) e
 closed_rem profile.Whole (Whole m) (Real y) z p q e = absurd q
 closed_rem profile.Whole (Real x) y z p q e = absurd p
 
@@ -121,12 +130,14 @@ is_real (Ok (Real x)) = true
 is_real (Err e) = false
 
 -- a double that equals a whole number up to 2 ^ 53 settles to one
-no_whole : (x : Float) (s : Bool) (q : ℕ) → q ≤ 2 ^ 53 → settled x ≡ Ok (Real x) → T (eq (of_int binary64 (signed s q)) x) → ⊥
+no_whole : (x : Float) (s : Bool) (q : ℕ) → q ≤ 2 ^ 53 → settled x ≡ Ok (Real x)
+    → T (eq (of_int binary64 (signed s q)) x) → ⊥
 no_whole nan s q h e t = true≢false (sym (ap is_ok e))
 no_whole (inf u) s q h e t = true≢false (sym (ap is_ok e))
 no_whole (fin u m p) s q h e t =
     let v = double_value s q h in
-    let k = counted (m * up p) (down p) q (down_pos p) (equal_size (of_int binary64 (signed s q)) u v.0 m p q v.2 t) h in
+    let k = counted (m * up p) (down p) q (down_pos p) (equal_size (of_int binary64 (signed s q)) u v.0 m p q v.2 t) h
+    in
     let whole : settled (fin u m p) ≡ Ok (Whole (signed u (m * up p / down p))) = rw k.0 refl in
     true≢false (sym (ap is_real (sym whole ∙ e)))
 
@@ -140,7 +151,8 @@ not_top x f e h =
     let is : of_bits binary64 (top binary64) ≡ x = ap (of_bits binary64) (sym h) ∙ of_bits-to_bits binary64 x f in
     true≢false (sym (ap is_real (ap settled is ∙ e)))
 
-same_double : (x y : Float) → T (fits binary64 x) → T (fits binary64 y) → settled x ≡ Ok (Real x) → settled y ≡ Ok (Real y) → T (eq x y) → x ≡ y
+same_double : (x y : Float) → T (fits binary64 x) → T (fits binary64 y) → settled x ≡ Ok (Real x)
+    → settled y ≡ Ok (Real y) → T (eq x y) → x ≡ y
 unfolding is_nan
 same_double nan y f g d e t = absurd (true≢false (sym (ap is_ok d)))
 same_double (inf s) y f g d e t = absurd (true≢false (sym (ap is_ok d)))
@@ -154,10 +166,12 @@ same_double (fin s m p) (fin u n k) f g d e t =
     let key = same_key binary64 x y (rw (first, second) refl) in
     let left = ne_eqb (to_bits binary64 x) (top binary64) (not_top x f d) in
     let right = ne_eqb (to_bits binary64 y) (top binary64) (not_top y g e) in
-    let bits : to_bits binary64 x ≡ to_bits binary64 y = apart (to_bits binary64 x) (to_bits binary64 y) left right key in
+    let bits : to_bits binary64 x ≡ to_bits binary64 y = apart (to_bits binary64 x) (to_bits binary64 y) left right key
+    in
     sym (of_bits-to_bits binary64 x f) ∙ ap (of_bits binary64) bits ∙ of_bits-to_bits binary64 y g
   where
-    apart : (a b : ℕ) → (a == top binary64) ≡ false → (b == top binary64) ≡ false → cond (a == top binary64) 0 a ≡ cond (b == top binary64) 0 b → a ≡ b
+    apart : (a b : ℕ) → (a == top binary64) ≡ false → (b == top binary64) ≡ false → cond (a == top binary64) 0 a
+        ≡ cond (b == top binary64) 0 b → a ≡ b
     apart a b l r h = sym (rw l refl) ∙ h ∙ rw r refl
 
 equal_from : (p q : Bool) → cond p Less (cond q Equal Greater) ≡ Equal → T q
@@ -176,5 +190,6 @@ one_whole (Real x) y p q e = absurd p
 pub one_double : OneValue profile.Double
 one_double (Whole m) (Whole n) p q e = ap Whole (same_int m n e)
 one_double (Whole m) (Real y) p q e = absurd (mixed m y p q.1 (equal_from (lt (of_int binary64 m) y) _ e))
-one_double (Real x) (Whole n) p q e = absurd (mixed n x q p.1 (eq_flip x (of_int binary64 n) (equal_from (lt x (of_int binary64 n)) _ e)))
+one_double (Real x) (Whole n) p q e =
+    absurd (mixed n x q p.1 (eq_flip x (of_int binary64 n) (equal_from (lt x (of_int binary64 n)) _ e)))
 one_double (Real x) (Real y) p q e = ap Real (same_double x y p.0 q.0 p.1 q.1 (equal_from (lt x y) _ e))

@@ -34,18 +34,25 @@ small_power power turn e h =
 
 -- a fraction with the factor w taken off
 off : (M d u w P D t : ℕ) → 0 < w → u * w ≡ t → M * t ≡ d * w * D → d * P * D ≡ M * P * u
-off M d u w P D t W E V = eq_of_mul-eq-mul_right w W (d * P * D) (M * P * u) (omega (arith, ap (λ (k : ℕ). M * P * k) E, ap (λ (k : ℕ). k * P) V))
+off M d u w P D t W E V = eq_of_mul-eq-mul_right w W (d * P * D) (M * P * u) (omega (
+  arith,
+  ap (λ (k : ℕ). M * P * k) E,
+  ap (λ (k : ℕ). k * P) V,
+))
 
 up_to : (M d u w P D t : ℕ) → 0 < t → u * t ≡ w → M * t ≡ d * w * D → d * P * u * D ≡ M * P * 1
-up_to M d u w P D t W E V = eq_of_mul-eq-mul_right t W (d * P * u * D) (M * P * 1) (omega (arith, ap (λ (k : ℕ). d * P * D * k) E, ap (λ (k : ℕ). k * P) V))
+up_to M d u w P D t W E V = eq_of_mul-eq-mul_right t W (d * P * u * D) (M * P * 1)
+    (omega (arith, ap (λ (k : ℕ). d * P * D * k) E, ap (λ (k : ℕ). k * P) V))
 
-pub over : (x : Float) (d k p : ℕ) → Splits x (d * 2 ^ k) → k ≤ 1074 → closest (d * 10 ^ p) (2 ^ (1074 - k)) ≡ rounded x p
+pub over : (x : Float) (d k p : ℕ) → Splits x (d * 2 ^ k) → k ≤ 1074 → closest (d * 10 ^ p) (2 ^ (1074 - k))
+    ≡ rounded x p
 unfolding rounded
 over nan d k p v h = absurd v
 over (inf s) d k p v h = absurd v
 over (fin s m e) d k p v h =
     closest_same (d * 10 ^ p) (2 ^ (1074 - k)) (m * up e * 10 ^ p) (down e) (pow_pos (1074 - k)) (down_pos e)
-    (off (m * up e) d (2 ^ (1074 - k)) (2 ^ k) (10 ^ p) (down e) (2 ^ 1074) (pow_pos k) (sym (pow-add 2 (1074 - k) k) ∙ ap (λ (n : ℕ). 2 ^ n) (back 1074 k h)) v)
+    (off (m * up e) d (2 ^ (1074 - k)) (2 ^ k) (10 ^ p) (down e) (2 ^ 1074) (pow_pos k) (sym (pow-add 2 (1074 - k) k)
+    ∙ ap (λ (n : ℕ). 2 ^ n) (back 1074 k h)) v)
 
 whole : (q : ℕ) → closest q 1 ≡ q
 whole q = rw (div-one q, mod-one q) refl
@@ -57,22 +64,26 @@ above (inf s) d k p v h = absurd v
 above (fin s m e) d k p v h =
     sym (whole (d * 10 ^ p * 2 ^ (k - 1074)))
     ∙ closest_same (d * 10 ^ p * 2 ^ (k - 1074)) 1 (m * up e * 10 ^ p) (down e) (omega arith) (down_pos e)
-    (up_to (m * up e) d (2 ^ (k - 1074)) (2 ^ k) (10 ^ p) (down e) (2 ^ 1074) (pow_pos 1074) (sym (pow-add 2 (k - 1074) 1074) ∙ ap (λ (n : ℕ). 2 ^ n) (back k 1074 h)) v)
+    (up_to (m * up e) d (2 ^ (k - 1074)) (2 ^ k) (10 ^ p) (down e) (2 ^ 1074) (pow_pos 1074)
+    (sym (pow-add 2 (k - 1074) 1074) ∙ ap (λ (n : ℕ). 2 ^ n) (back k 1074 h)) v)
 
 -- what 128 bits hold
 pub number_small : (d p n : ℕ) → d < 2 ^ 53 → p ≤ 19 → n ≡ d * 10 ^ p → n < 2 ^ 117
 number_small d p n h k e =
     let most : 10 ^ p ≤ 10 ^ 19 = pow-le-pow_right {n = 10} (omega arith) {i = p} {j = 19} (omega arith) in
-    let both : d * 10 ^ p ≤ 2 ^ 53 * 10 ^ 19 = mul-le-mul {n₁ = d} {m₁ = 10 ^ p} {n₂ = 2 ^ 53} {m₂ = 10 ^ 19} (omega arith) most in
+    let both : d * 10 ^ p ≤ 2 ^ 53 * 10 ^ 19 = mul-le-mul {n₁ = d} {m₁ = 10 ^ p} {n₂ = 2 ^ 53} {m₂ = 10 ^ 19}
+    (omega arith) most in
     omega (arith, both, e)
 
 pub shifted_small : (n s : ℕ) → n < 2 ^ 117 → s ≤ 10 → n * 2 ^ s < 2 ^ 128
 shifted_small n s h k =
     let most : 2 ^ s ≤ 2 ^ 10 = pow_mono {i = s} {j = 10} k in
-    let both : n * 2 ^ s ≤ 2 ^ 117 * 2 ^ 10 = mul-le-mul {n₁ = n} {m₁ = 2 ^ s} {n₂ = 2 ^ 117} {m₂ = 2 ^ 10} (omega arith) most in
+    let both : n * 2 ^ s ≤ 2 ^ 117 * 2 ^ 10 = mul-le-mul {n₁ = n} {m₁ = 2 ^ s} {n₂ = 2 ^ 117} {m₂ = 2 ^ 10}
+    (omega arith) most in
     omega (arith, both)
 
-pub as_fixed : (x : Float) (p n : ℕ) → n ≡ rounded x p → pointed p (replicate (p + 1 - length (decimal n)) 48 ++ decimal n) ≡ fixed x p
+pub as_fixed : (x : Float) (p n : ℕ) → n ≡ rounded x p
+    → pointed p (replicate (p + 1 - length (decimal n)) 48 ++ decimal n) ≡ fixed x p
 unfolding fixed
 as_fixed x p n e = ap (λ (k : ℕ). pointed p (padded (p + 1) k)) e
 

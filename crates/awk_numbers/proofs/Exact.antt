@@ -1,6 +1,7 @@
 -- For whole numbers of a size up to 2 ^ 53, the doubles' operators give what the whole numbers' do.
 use Rattle.std.proofs.Common.{ℕ, zero, suc, ◌≡◌, ◌+◌, ◌*◌, ◌/◌, ◌%◌, ◌^◌, ◌<◌, ◌≤◌, Bool, true, false, not}
-use Rattle.std.proofs.Common.{ℤ, pos, negsuc, ◌+ℤ◌, ◌-ℤ◌, ◌*ℤ◌, neg_ℤ, unsigned_abs, int_div, int_rem, Ok, Err, Result, is_ok, refl, sym, ap, subst, ◌∙◌, arith, div-add-mod', true≢false}
+use Rattle.std.proofs.Common.{ℤ, pos, negsuc, ◌+ℤ◌, ◌-ℤ◌, ◌*ℤ◌, neg_ℤ, unsigned_abs, int_div, int_rem, Ok, Err, Result}
+use Rattle.std.proofs.Common.{is_ok, refl, sym, ap, subst, ◌∙◌, arith, div-add-mod', true≢false}
 use Rattle.std.proofs.lemmas.Int.{ints}
 use Rattle.std.specs.Bool.{if◌then◌else◌}
 use Rattle.std.specs.Float.{Float, binary64}
@@ -29,9 +30,12 @@ to f e = ap f e
 pub add_exact : (m n : ℤ) → unsigned_abs m ≤ 2 ^ 53 → unsigned_abs n ≤ 2 ^ 53 → unsigned_abs (m +ℤ n) ≤ 2 ^ 53
     → settled (add binary64 (of_int binary64 m) (of_int binary64 n)) ≡ Ok (Whole (m +ℤ n))
 add_exact (pos a) (pos b) p q r = add_whole _ _ false false a b (positive_value a p) (positive_value b q) p q (λ e. r)
-add_exact (pos a) (negsuc b) p q r = add_whole _ _ false true a (suc b) (positive_value a p) (negative_value b q) p q (λ e. absurd (true≢false (sym e)))
-add_exact (negsuc a) (pos b) p q r = add_whole _ _ true false (suc a) b (negative_value a p) (positive_value b q) p q (λ e. absurd (true≢false e))
-add_exact (negsuc a) (negsuc b) p q r = add_whole _ _ true true (suc a) (suc b) (negative_value a p) (negative_value b q) p q (λ e. omega (arith, r))
+add_exact (pos a) (negsuc b) p q r = add_whole _ _ false true a (suc b) (positive_value a p) (negative_value b q) p q
+    (λ e. absurd (true≢false (sym e)))
+add_exact (negsuc a) (pos b) p q r = add_whole _ _ true false (suc a) b (negative_value a p) (positive_value b q) p q
+    (λ e. absurd (true≢false e))
+add_exact (negsuc a) (negsuc b) p q r = add_whole _ _ true true (suc a) (suc b) (negative_value a p)
+    (negative_value b q) p q (λ e. omega (arith, r))
 
 neg_of : (n : ℤ) → unsigned_abs n ≤ 2 ^ 53 → settled (neg (of_int binary64 n)) ≡ Ok (Whole (neg_ℤ n))
 neg_of (pos a) p = settled_whole _ true a (neg_value _ false a (positive_value a p)) p
@@ -48,25 +52,32 @@ pub sub_exact : (m n : ℤ) → unsigned_abs m ≤ 2 ^ 53 → unsigned_abs n ≤
     → settled (sub binary64 (of_int binary64 m) (of_int binary64 n)) ≡ Ok (Whole (m -ℤ n))
 unfolding sub
 sub_exact (pos a) (pos b) p q r =
-    add_whole _ _ false true a b (positive_value a p) (neg_value _ false b (positive_value b q)) p q (λ e. absurd (true≢false (sym e))) ∙ ap (λ (z : ℤ). Ok (Whole z)) (omega (arith, ints))
+    add_whole _ _ false true a b (positive_value a p) (neg_value _ false b (positive_value b q)) p q
+    (λ e. absurd (true≢false (sym e))) ∙ ap (λ (z : ℤ). Ok (Whole z)) (omega (arith, ints))
 sub_exact (pos a) (negsuc b) p q r =
-    add_whole _ _ false false a (suc b) (positive_value a p) (neg_value _ true (suc b) (negative_value b q)) p q (λ e. omega (arith, r)) ∙ ap (λ (z : ℤ). Ok (Whole z)) (omega (arith, ints))
+    add_whole _ _ false false a (suc b) (positive_value a p) (neg_value _ true (suc b) (negative_value b q)) p q
+    (λ e. omega (arith, r)) ∙ ap (λ (z : ℤ). Ok (Whole z)) (omega (arith, ints))
 sub_exact (negsuc a) (pos b) p q r =
-    add_whole _ _ true true (suc a) b (negative_value a p) (neg_value _ false b (positive_value b q)) p q (λ e. differs a b r) ∙ ap (λ (z : ℤ). Ok (Whole z)) (omega (arith, ints))
+    add_whole _ _ true true (suc a) b (negative_value a p) (neg_value _ false b (positive_value b q)) p q
+    (λ e. differs a b r) ∙ ap (λ (z : ℤ). Ok (Whole z)) (omega (arith, ints))
   where
     differs : (a b : ℕ) → unsigned_abs (negsuc a -ℤ pos b) ≤ 2 ^ 53 → suc a + b ≤ 2 ^ 53
     differs a b r =
         let e : negsuc a -ℤ pos b ≡ neg_ℤ (pos (suc a + b)) = omega (arith, ints) in
         size (suc a + b) (subst (λ (z : ℤ). unsigned_abs z ≤ 2 ^ 53) e r)
 sub_exact (negsuc a) (negsuc b) p q r =
-    add_whole _ _ true false (suc a) (suc b) (negative_value a p) (neg_value _ true (suc b) (negative_value b q)) p q (λ e. absurd (true≢false e)) ∙ ap (λ (z : ℤ). Ok (Whole z)) (omega (arith, ints))
+    add_whole _ _ true false (suc a) (suc b) (negative_value a p) (neg_value _ true (suc b) (negative_value b q)) p q
+    (λ e. absurd (true≢false e)) ∙ ap (λ (z : ℤ). Ok (Whole z)) (omega (arith, ints))
 
 pub mul_exact : (m n : ℤ) → unsigned_abs m ≤ 2 ^ 53 → unsigned_abs n ≤ 2 ^ 53 → unsigned_abs (m *ℤ n) ≤ 2 ^ 53
     → settled (mul binary64 (of_int binary64 m) (of_int binary64 n)) ≡ Ok (Whole (m *ℤ n))
 mul_exact (pos a) (pos b) p q r = mul_whole _ _ false false a b (positive_value a p) (positive_value b q) r
-mul_exact (pos a) (negsuc b) p q r = mul_whole _ _ false true a (suc b) (positive_value a p) (negative_value b q) (size (a * suc b) r)
-mul_exact (negsuc a) (pos b) p q r = mul_whole _ _ true false (suc a) b (negative_value a p) (positive_value b q) (size (suc a * b) r)
-mul_exact (negsuc a) (negsuc b) p q r = mul_whole _ _ true true (suc a) (suc b) (negative_value a p) (negative_value b q) r
+mul_exact (pos a) (negsuc b) p q r = mul_whole _ _ false true a (suc b) (positive_value a p) (negative_value b q)
+    (size (a * suc b) r)
+mul_exact (negsuc a) (pos b) p q r = mul_whole _ _ true false (suc a) b (negative_value a p) (positive_value b q)
+    (size (suc a * b) r)
+mul_exact (negsuc a) (negsuc b) p q r = mul_whole _ _ true true (suc a) (suc b) (negative_value a p)
+    (negative_value b q) r
 
 -- nothing remains
 times : (a b : ℕ) → a % b ≡ 0 → a ≡ a / b * b
@@ -84,17 +95,22 @@ no_more a b = Rattle.std.proofs.Math.Nat.div-le_self a b
 
 pub div_exact : (m n : ℤ) → unsigned_abs m ≤ 2 ^ 53 → unsigned_abs n ≤ 2 ^ 53 → 0 < unsigned_abs n → int_rem m n ≡ pos 0
     → settled (div binary64 (of_int binary64 m) (of_int binary64 n)) ≡ Ok (Whole (int_div m n))
-div_exact (pos a) (pos b) p q z r = div_whole _ _ false false a b (a / b) (positive_value a p) (positive_value b q) z (times a b (size_pos _ r)) (omega (arith, p, no_more a b))
-div_exact (pos a) (negsuc b) p q z r = div_whole _ _ false true a (suc b) (a / suc b) (positive_value a p) (negative_value b q) z (times a (suc b) (size_pos _ r)) (omega (arith, p, no_more a (suc b)))
-div_exact (negsuc a) (pos b) p q z r = div_whole _ _ true false (suc a) b (suc a / b) (negative_value a p) (positive_value b q) z (times (suc a) b (size_neg _ r)) (omega (arith, p, no_more (suc a) b))
-div_exact (negsuc a) (negsuc b) p q z r = div_whole _ _ true true (suc a) (suc b) (suc a / suc b) (negative_value a p) (negative_value b q) z (times (suc a) (suc b) (size_neg _ r)) (omega (arith, p, no_more (suc a) (suc b)))
+div_exact (pos a) (pos b) p q z r = div_whole _ _ false false a b (a / b) (positive_value a p) (positive_value b q) z
+    (times a b (size_pos _ r)) (omega (arith, p, no_more a b))
+div_exact (pos a) (negsuc b) p q z r = div_whole _ _ false true a (suc b) (a / suc b) (positive_value a p)
+    (negative_value b q) z (times a (suc b) (size_pos _ r)) (omega (arith, p, no_more a (suc b)))
+div_exact (negsuc a) (pos b) p q z r = div_whole _ _ true false (suc a) b (suc a / b) (negative_value a p)
+    (positive_value b q) z (times (suc a) b (size_neg _ r)) (omega (arith, p, no_more (suc a) b))
+div_exact (negsuc a) (negsuc b) p q z r = div_whole _ _ true true (suc a) (suc b) (suc a / suc b) (negative_value a p)
+    (negative_value b q) z (times (suc a) (suc b) (size_neg _ r)) (omega (arith, p, no_more (suc a) (suc b)))
 
 pub rem_exact : (m n : ℤ) → unsigned_abs m ≤ 2 ^ 53 → unsigned_abs n ≤ 2 ^ 53 → 0 < unsigned_abs n
     → settled (rem binary64 (of_int binary64 m) (of_int binary64 n)) ≡ Ok (Whole (int_rem m n))
 rem_exact (pos a) (pos b) p q z = rem_whole _ _ false false a b (positive_value a p) (positive_value b q) z p
 rem_exact (pos a) (negsuc b) p q z = rem_whole _ _ false true a (suc b) (positive_value a p) (negative_value b q) z p
 rem_exact (negsuc a) (pos b) p q z = rem_whole _ _ true false (suc a) b (negative_value a p) (positive_value b q) z p
-rem_exact (negsuc a) (negsuc b) p q z = rem_whole _ _ true true (suc a) (suc b) (negative_value a p) (negative_value b q) z p
+rem_exact (negsuc a) (negsuc b) p q z = rem_whole _ _ true true (suc a) (suc b) (negative_value a p)
+    (negative_value b q) z p
 
 -- ---- what a result of the whole numbers says
 abbrev held : Result Number NumberFault → ℤ

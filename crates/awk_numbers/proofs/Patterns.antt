@@ -35,10 +35,16 @@ suc_field : (s : Bool) (j t : ℕ) → suc j < 2048 → T (float_is_finite (of_f
 unfolding of_fields
 suc_field s j t h = go (eqb (suc j) 2047) refl
   where
-    go : (b : Bool) → eqb (suc j) 2047 ≡ b → T (float_is_finite (cond b (cond (eqb t 0) (inf s) nan) (odd 53 s (2 ^ 52 + t) j 1074)))
-        → (suc j < 2047) × Splits (cond b (cond (eqb t 0) (inf s) nan) (odd 53 s (2 ^ 52 + t) j 1074)) ((t + 2 ^ 52) * 2 ^ j)
+    go : (b : Bool) → eqb (suc j) 2047 ≡ b
+        → T (float_is_finite (cond b (cond (eqb t 0) (inf s) nan) (odd 53 s (2 ^ 52 + t) j 1074)))
+        → (suc j < 2047) × Splits (cond b (cond (eqb t 0) (inf s) nan) (odd 53 s (2 ^ 52 + t) j 1074))
+        ((t + 2 ^ 52) * 2 ^ j)
     go true e f = absurd (never_finite (eqb t 0) s f)
-    go false e f = (omega (arith, eqb-false (suc j) 2047 e), splits _ s _ (subst (λ (k : ℕ). HasValue (odd 53 s (2 ^ 52 + t) j 1074) s (k * 2 ^ j) (2 ^ 1074)) (omega arith) (odd_sign 53 s (2 ^ 52 + t) j 1074)))
+    go false e f = (
+      omega (arith, eqb-false (suc j) 2047 e),
+      splits _ s _ (subst (λ (k : ℕ). HasValue (odd 53 s (2 ^ 52 + t) j 1074) s (k * 2 ^ j) (2 ^ 1074)) (omega arith)
+          (odd_sign 53 s (2 ^ 52 + t) j 1074)),
+    )
 
 module _ (x : Float) (f : T (fits binary64 x)) (h : T (float_is_finite x)) where
   abbrev b : ℕ
@@ -57,15 +63,19 @@ module _ (x : Float) (f : T (fits binary64 x)) (h : T (float_is_finite x)) where
       let rest : b % 2 ^ 52 ≡ b % 2 ^ 63 = omega arith in
       subst (λ (y : Float). Splits y (b % 2 ^ 63 * 1)) back
       (subst (λ (n : ℕ). Splits (of_fields binary64 (leb (2 ^ 63) b) n (b % 2 ^ 52)) (b % 2 ^ 63 * 1)) (sym field)
-      (subst (λ (n : ℕ). Splits (of_fields binary64 (leb (2 ^ 63) b) 0 (b % 2 ^ 52)) (n * 1)) rest (zero_field (leb (2 ^ 63) b) (b % 2 ^ 52))))
+      (subst (λ (n : ℕ). Splits (of_fields binary64 (leb (2 ^ 63) b) 0 (b % 2 ^ 52)) (n * 1)) rest
+      (zero_field (leb (2 ^ 63) b) (b % 2 ^ 52))))
 
-  pub high : 2 ^ 52 ≤ b % 2 ^ 63 → (b % 2 ^ 63 / 2 ^ 52 < 2047) × Splits x ((b % 2 ^ 63 % 2 ^ 52 + 2 ^ 52) * 2 ^ (b % 2 ^ 63 / 2 ^ 52 - 1))
+  pub high : 2 ^ 52 ≤ b % 2 ^ 63 → (b % 2 ^ 63 / 2 ^ 52 < 2047)
+      × Splits x ((b % 2 ^ 63 % 2 ^ 52 + 2 ^ 52) * 2 ^ (b % 2 ^ 63 / 2 ^ 52 - 1))
   unfolding of_bits
   high l =
       let j = b % 2 ^ 63 / 2 ^ 52 - 1 in
       let field : b % 2 ^ 63 / 2 ^ 52 ≡ suc j = omega arith in
       let rest : b % 2 ^ 52 ≡ b % 2 ^ 63 % 2 ^ 52 = omega arith in
       let same : of_fields binary64 (leb (2 ^ 63) b) (suc j) (b % 2 ^ 63 % 2 ^ 52) ≡ x =
-      ap (λ (n : ℕ). of_fields binary64 (leb (2 ^ 63) b) n (b % 2 ^ 63 % 2 ^ 52)) (sym field) ∙ ap (λ (n : ℕ). of_fields binary64 (leb (2 ^ 63) b) (b % 2 ^ 63 / 2 ^ 52) n) (sym rest) ∙ back in
-      let all' = suc_field (leb (2 ^ 63) b) j (b % 2 ^ 63 % 2 ^ 52) (omega arith) (subst (λ (y : Float). T (float_is_finite y)) (sym same) h) in
+      ap (λ (n : ℕ). of_fields binary64 (leb (2 ^ 63) b) n (b % 2 ^ 63 % 2 ^ 52)) (sym field)
+      ∙ ap (λ (n : ℕ). of_fields binary64 (leb (2 ^ 63) b) (b % 2 ^ 63 / 2 ^ 52) n) (sym rest) ∙ back in
+      let all' = suc_field (leb (2 ^ 63) b) j (b % 2 ^ 63 % 2 ^ 52) (omega arith)
+      (subst (λ (y : Float). T (float_is_finite y)) (sym same) h) in
       (omega (arith, all'.0), subst (λ (y : Float). Splits y ((b % 2 ^ 63 % 2 ^ 52 + 2 ^ 52) * 2 ^ j)) same all'.1)

@@ -1,8 +1,11 @@
 -- When a double is a whole number up to 2 ^ 53, by comparisons and casts.
-use Rattle.std.proofs.Common.{ℕ, zero, suc, ◌≡◌, ◌+◌, ◌*◌, ◌/◌, ◌%◌, ◌^◌, ◌<◌, ◌≤◌, Bool, true, false, not, cond, ◌&&◌, ◌||◌, ◌==◌, T, ltb, eqb, w64, ◌⊎◌, inl, inr}
-use Rattle.std.proofs.Common.{ℤ, pos, negsuc, neg_ℤ, unsigned_abs, nat_le, Ok, Err, refl, sym, ap, subst, ◌∙◌, arith, div-add-mod', lt→ltb, ltb→lt, eqb→eq, true≢false}
+use Rattle.std.proofs.Common.{ℕ, zero, suc, ◌≡◌, ◌+◌, ◌*◌, ◌/◌, ◌%◌, ◌^◌, ◌<◌, ◌≤◌, Bool, true, false, not, cond, ◌&&◌}
+use Rattle.std.proofs.Common.{◌||◌, ◌==◌, T, ltb, eqb, w64, ◌⊎◌, inl, inr}
+use Rattle.std.proofs.Common.{ℤ, pos, negsuc, neg_ℤ, unsigned_abs, nat_le, Ok, Err, refl, sym, ap, subst, ◌∙◌, arith}
+use Rattle.std.proofs.Common.{div-add-mod', lt→ltb, ltb→lt, eqb→eq, true≢false}
 use Rattle.std.proofs.lemmas.Float.{le_trans, lt_of_le_of_lt, lt_of_not-le}
-use Rattle.std.specs.Float.{Float, binary64, nan, inf, fin, two_to, minus_two_to, ◌≤ᶠ◌, ◌<ᶠ◌, float_is_finite, float_to_signed}
+use Rattle.std.specs.Float.{Float, binary64, nan, inf, fin, two_to, minus_two_to, ◌≤ᶠ◌, ◌<ᶠ◌, float_is_finite}
+use Rattle.std.specs.Float.{float_to_signed}
 use lib.Dec.{eqb_refl, le→leb}
 use lib.Ieee.{le, lt, eq, up, down, to_signed, of_int, in_float, level, is_nan}
 use lib.Ieee.Exact.{HasValue}
@@ -37,7 +40,8 @@ at_most x y c h = go (ltb x y) (eqb x y) (ltb→lt x y) (eqb→eq x y) h
 pub small_size : (s : Bool) (m : ℕ) (e : ℤ) → T (is_small (fin s m e)) → m * up e ≤ 2 ^ 53 * down e
 unfolding le lt eq
 small_size false m e h = omega (arith, at_most (m * up e * 1) (2 ^ 53 * down e) _ (and_r _ _ h))
-small_size true m e h = omega (arith, at_most (m * up e * 1) (2 ^ 53 * down e) _ (flipped (m * up e * 1) (2 ^ 53 * down e) (and_l _ _ h)))
+small_size true m e h =
+    omega (arith, at_most (m * up e * 1) (2 ^ 53 * down e) _ (flipped (m * up e * 1) (2 ^ 53 * down e) (and_l _ _ h)))
   where
     flipped : (x y : ℕ) → T (ltb x y || (eqb y x && true)) → T (ltb x y || (eqb x y && true))
     flipped x y t = go (ltb x y) (eqb y x) (eqb→eq y x) t
@@ -50,9 +54,11 @@ small_size true m e h = omega (arith, at_most (m * up e * 1) (2 ^ 53 * down e) _
 -- not small, by the order of the numbers
 pub large_size : (s : Bool) (m : ℕ) (e : ℤ) → T (not (is_small (fin s m e))) → 2 ^ 53 * down e < m * up e
 unfolding is_nan lt
-large_size s m e h = go s (le (minus_two_to 53) (fin s m e)) (le (fin s m e) (two_to 53)) (lt_of_not-le (minus_two_to 53) (fin s m e) tt tt) (lt_of_not-le (fin s m e) (two_to 53) tt tt) h
+large_size s m e h = go s (le (minus_two_to 53) (fin s m e)) (le (fin s m e) (two_to 53))
+    (lt_of_not-le (minus_two_to 53) (fin s m e) tt tt) (lt_of_not-le (fin s m e) (two_to 53) tt tt) h
   where
-    go : (s p q : Bool) → (T (not p) → T (lt (fin s m e) (minus_two_to 53))) → (T (not q) → T (lt (two_to 53) (fin s m e))) → T (not (p && q)) → 2 ^ 53 * down e < m * up e
+    go : (s p q : Bool) → (T (not p) → T (lt (fin s m e) (minus_two_to 53)))
+        → (T (not q) → T (lt (two_to 53) (fin s m e))) → T (not (p && q)) → 2 ^ 53 * down e < m * up e
     go true true true f g t = absurd t
     go false true true f g t = absurd t
     go true false q f g t = omega (arith, ltb→lt _ _ (f tt))
@@ -106,23 +112,27 @@ across a b q c d e f =
     rw (first, f) (omega arith)
 
 -- a double of the sign and size of a whole number equals one of the same
-pub equals : (x : Float) (s t : Bool) (m : ℕ) (e : ℤ) (q : ℕ) → HasValue x t q 1 → (t ≡ s) ⊎ (q ≡ 0) → m * up e ≡ q * down e → T (eq x (fin s m e))
+pub equals : (x : Float) (s t : Bool) (m : ℕ) (e : ℤ) (q : ℕ) → HasValue x t q 1 → (t ≡ s) ⊎ (q ≡ 0)
+    → m * up e ≡ q * down e → T (eq x (fin s m e))
 unfolding eq
 equals nan s t m e q v w h = absurd v
 equals (inf u) s t m e q v w h = absurd v
 equals (fin u n d) s t m e q v (inl w) h =
-    subst (λ (k : Bool). T (level k (n * up d * down e) s (m * up e * down d))) (sym (v.0 ∙ w)) (level_same s (n * up d * down e) (m * up e * down d) (across (n * up d) (m * up e) q (down d) (down e) v.1 h))
+    subst (λ (k : Bool). T (level k (n * up d * down e) s (m * up e * down d))) (sym (v.0 ∙ w))
+    (level_same s (n * up d * down e) (m * up e * down d) (across (n * up d) (m * up e) q (down d) (down e) v.1 h))
 equals (fin u n d) s t m e q v (inr w) h =
     let here : n * up d * down e ≡ m * up e * down d = across (n * up d) (m * up e) q (down d) (down e) v.1 h in
     let none : m * up e ≡ 0 = h ∙ ap (λ (i : ℕ). i * down e) w ∙ omega arith in
     let last : m * up e * down d ≡ 0 = ap (λ (i : ℕ). i * down d) none ∙ omega arith in
     level_zero u s (n * up d * down e) (m * up e * down d) (here ∙ last) last
 
-pub equal_size : (x : Float) (s t : Bool) (m : ℕ) (e : ℤ) (q : ℕ) → HasValue x t q 1 → T (eq x (fin s m e)) → m * up e ≡ q * down e
+pub equal_size : (x : Float) (s t : Bool) (m : ℕ) (e : ℤ) (q : ℕ) → HasValue x t q 1 → T (eq x (fin s m e))
+    → m * up e ≡ q * down e
 unfolding eq
 equal_size nan s t m e q v h = absurd v
 equal_size (inf u) s t m e q v h = absurd v
-equal_size (fin u n d) s t m e q v h = cancelled (n * up d) (m * up e) q (down d) (down e) (down_pos d) v.1 (eqb→eq _ _ (and_l _ _ h))
+equal_size (fin u n d) s t m e q v h = cancelled (n * up d) (m * up e) q (down d) (down e) (down_pos d) v.1
+    (eqb→eq _ _ (and_l _ _ h))
   where
     cancelled : (a b q c d : ℕ) → 0 < c → a * 1 ≡ q * c → a * d ≡ b * c → b ≡ q * d
     cancelled a b q c d p e f =
@@ -130,16 +140,19 @@ equal_size (fin u n d) s t m e q v h = cancelled (n * up d) (m * up e) q (down d
         native.Mathlib.Nat.eq_of_mul-eq-mul_right c p b (q * d) (sym f ∙ ap (λ (i : ℕ). i * d) first ∙ omega arith)
 
 -- the double of a whole number with a sign
-pub double_value : (s : Bool) (q : ℕ) → q ≤ 2 ^ 53 → (t : Bool) × ((t ≡ s) ⊎ (q ≡ 0)) × HasValue (of_int binary64 (signed s q)) t q 1
+pub double_value : (s : Bool) (q : ℕ) → q ≤ 2 ^ 53 → (t : Bool) × ((t ≡ s) ⊎ (q ≡ 0))
+    × HasValue (of_int binary64 (signed s q)) t q 1
 double_value false q h = (false, inl refl, positive_value q h)
 double_value true zero h = (false, inr refl, positive_value zero h)
 double_value true (suc q) h = (true, inl refl, negative_value q h)
 
-whole_by : (s : Bool) (m : ℕ) (e : ℤ) (n : ℤ) → n ≡ signed s (m * up e / down e) → m * up e / down e ≤ 2 ^ 53 → T (eq (of_int binary64 n) (fin s m e))
+whole_by : (s : Bool) (m : ℕ) (e : ℤ) (n : ℤ) → n ≡ signed s (m * up e / down e) → m * up e / down e ≤ 2 ^ 53
+    → T (eq (of_int binary64 n) (fin s m e))
     → Ok (Whole n) ≡ settled (fin s m e)
 whole_by s m e n is few h =
     let v = double_value s (m * up e / down e) few in
-    let all = equal_size (of_int binary64 (signed s (m * up e / down e))) s v.0 m e (m * up e / down e) v.2 (subst (λ (z : ℤ). T (eq (of_int binary64 z) (fin s m e))) is h) in
+    let all = equal_size (of_int binary64 (signed s (m * up e / down e))) s v.0 m e (m * up e / down e) v.2
+    (subst (λ (z : ℤ). T (eq (of_int binary64 z) (fin s m e))) is h) in
     let k = counted (m * up e) (down e) (m * up e / down e) (down_pos e) all few in
     rw k.0 (ap (λ (z : ℤ). Ok (Whole z)) is)
 
@@ -150,25 +163,30 @@ uncounted a b h = go (a % b == 0) (eqb→eq (a % b) 0)
     go true f = absurd (h (omega (arith, f tt, div-add-mod' a b)))
     go false f = refl
 
-real_by : (s : Bool) (m : ℕ) (e : ℤ) (n : ℤ) → n ≡ signed s (m * up e / down e) → m * up e / down e ≤ 2 ^ 53 → T (not (eq (of_int binary64 n) (fin s m e)))
+real_by : (s : Bool) (m : ℕ) (e : ℤ) (n : ℤ) → n ≡ signed s (m * up e / down e) → m * up e / down e ≤ 2 ^ 53
+    → T (not (eq (of_int binary64 n) (fin s m e)))
     → Ok (Real (fin s m e)) ≡ settled (fin s m e)
 real_by s m e n is few h =
     let v = double_value s (m * up e / down e) few in
     rw (uncounted (m * up e) (down e)
-    (λ (all : m * up e ≡ m * up e / down e * down e). both _ (subst (λ (z : ℤ). T (eq (of_int binary64 z) (fin s m e))) (sym is) (equals (of_int binary64 (signed s (m * up e / down e))) s v.0 m e (m * up e / down e) v.2 v.1 all)) h)) refl
+    (λ (all : m * up e ≡ m * up e / down e * down e). both _ (subst (λ (z : ℤ). T (eq (of_int binary64 z) (fin s m e)))
+    (sym is) (equals (of_int binary64 (signed s (m * up e / down e))) s v.0 m e (m * up e / down e) v.2 v.1 all))
+    h)) refl
   where
     both : (b : Bool) → T b → T (not b) → ⊥
     both true t u = u
     both false t u = t
 
-pub settles_whole : (x : Float) (n : ℤ) → T (is_small x) → n ≡ float_to_signed w64 x → T (eq (of_int binary64 n) x) → Ok (Whole n) ≡ settled x
+pub settles_whole : (x : Float) (n : ℤ) → T (is_small x) → n ≡ float_to_signed w64 x → T (eq (of_int binary64 n) x)
+    → Ok (Whole n) ≡ settled x
 unfolding le lt eq
 settles_whole nan n h e k = absurd h
 settles_whole (inf true) n h e k = absurd h
 settles_whole (inf false) n h e k = absurd h
 settles_whole (fin s m p) n h e k = whole_by s m p n (e ∙ (cut s m p h).0) (cut s m p h).1 k
 
-pub settles_real : (x : Float) (n : ℤ) → T (is_small x) → n ≡ float_to_signed w64 x → T (not (eq (of_int binary64 n) x)) → Ok (Real x) ≡ settled x
+pub settles_real : (x : Float) (n : ℤ) → T (is_small x) → n ≡ float_to_signed w64 x → T (not (eq (of_int binary64 n) x))
+    → Ok (Real x) ≡ settled x
 unfolding le lt eq
 settles_real nan n h e k = absurd h
 settles_real (inf true) n h e k = absurd h
@@ -183,7 +201,8 @@ past a b p h = go (a % b == 0) (eqb→eq (a % b) 0)
     go false f = refl
     go true f =
         let all : a ≡ a / b * b = omega (arith, f tt, div-add-mod' a b) in
-        Rattle.std.proofs.lemmas.Bool.lt-leb (a / b) (2 ^ 53) (native.Mathlib.Nat.lt_of_mul-lt-mul_right b (subst (λ (n : ℕ). 2 ^ 53 * b < n) all h))
+        Rattle.std.proofs.lemmas.Bool.lt-leb (a / b) (2 ^ 53) (native.Mathlib.Nat.lt_of_mul-lt-mul_right b
+        (subst (λ (n : ℕ). 2 ^ 53 * b < n) all h))
 
 pub settles_large : (x : Float) → T (not (is_small x)) → float_is_finite x ≡ true → Ok (Real x) ≡ settled x
 unfolding float_is_finite
@@ -197,5 +216,6 @@ settles_nothing nan f = refl
 settles_nothing (inf s) f = refl
 settles_nothing (fin s m e) f = absurd (true≢false f)
 
-pub bounded_at : (x : Number) (y : Float) (n : ℤ) → x ≡ Real y → is_bounded y ≡ true → n ≡ float_to_signed w64 y → Ok n ≡ whole_of x
+pub bounded_at : (x : Number) (y : Float) (n : ℤ) → x ≡ Real y → is_bounded y ≡ true → n ≡ float_to_signed w64 y
+    → Ok n ≡ whole_of x
 bounded_at x y n e b is = rw (e, b, is) refl

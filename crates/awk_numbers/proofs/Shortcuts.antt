@@ -1,5 +1,6 @@
 -- The short ways of the operators, as the code takes them: a number of 64 bits is read back from its bits.
-use Rattle.std.proofs.Common.{◌≡◌, ◌^◌, ◌<◌, ◌≤◌, ℤ, pos, ◌+ℤ◌, ◌-ℤ◌, ◌*ℤ◌, neg_ℤ, unsigned_abs, Ok, SFits, w64, to_z, of_z}
+use Rattle.std.proofs.Common.{◌≡◌, ◌^◌, ◌<◌, ◌≤◌, ℤ, pos, ◌+ℤ◌, ◌-ℤ◌, ◌*ℤ◌, neg_ℤ, unsigned_abs, Ok, SFits, w64, to_z}
+use Rattle.std.proofs.Common.{of_z}
 use Rattle.std.proofs.Common.{refl, sym, ap, subst, ◌∙◌, arith}
 use Rattle.std.proofs.lemmas.Int.{ints, fits_signed_from_abs, to_z-of_z}
 use lib.Ieee.{binary64, add, sub, mul, neg}
@@ -18,7 +19,8 @@ fits : (z : ℤ) → IsSmall z → SFits w64 z
 fits z h = fits_signed_from_abs w64 z (omega (arith, h))
 
 -- what a checked operation gives
-pub checked : (f : ℤ → ℤ → ℤ) (m n z : ℤ) → IsSmall m → IsSmall n → SFits w64 (f (held m) (held n)) × (z ≡ f (held m) (held n)) → held z ≡ f m n
+pub checked : (f : ℤ → ℤ → ℤ) (m n z : ℤ) → IsSmall m → IsSmall n → SFits w64 (f (held m) (held n))
+    × (z ≡ f (held m) (held n)) → held z ≡ f m n
 checked f m n z p q e =
     let first : held m ≡ m = to_z-of_z w64 m (fits m p) in
     let second : held n ≡ n = to_z-of_z w64 n (fits n q) in
@@ -42,9 +44,11 @@ size_of_neg n h = omega (arith, ints, h)
 minus : (n : ℤ) → pos 0 -ℤ n ≡ neg_ℤ n
 minus n = omega (arith, ints)
 
-pub neg_at : (x : Number) (n : ℤ) → SFits w64 n → x ≡ Whole n → IsSmall (held n) → Ok (Whole (held (pos 0 -ℤ held n))) ≡ settled (neg (double_of x))
+pub neg_at : (x : Number) (n : ℤ) → SFits w64 n → x ≡ Whole n → IsSmall (held n) → Ok (Whole (held (pos 0 -ℤ held n)))
+    ≡ settled (neg (double_of x))
 neg_at x n f e h =
     let same : held n ≡ n = to_z-of_z w64 n f in
     let small : IsSmall n = subst IsSmall same h in
-    let all : held (pos 0 -ℤ held n) ≡ neg_ℤ n = ap (λ (k : ℤ). held (pos 0 -ℤ k)) same ∙ ap held (minus n) ∙ to_z-of_z w64 (neg_ℤ n) (fits (neg_ℤ n) (size_of_neg n small)) in
+    let all : held (pos 0 -ℤ held n) ≡ neg_ℤ n = ap (λ (k : ℤ). held (pos 0 -ℤ k)) same ∙ ap held (minus n)
+    ∙ to_z-of_z w64 (neg_ℤ n) (fits (neg_ℤ n) (size_of_neg n small)) in
     rw (e, all) (sym (neg_exact n small))

@@ -1,6 +1,8 @@
 -- What the operators give of doubles that have the value of whole numbers.
-use Rattle.std.proofs.Common.{ℕ, zero, suc, ◌≡◌, ◌+◌, ◌-◌, ◌*◌, ◌/◌, ◌%◌, ◌^◌, ◌<◌, ◌≤◌, ◌⊎◌, inl, inr, Bool, true, false, not, cond, ◌&&◌}
-use Rattle.std.proofs.Common.{ℤ, pos, negsuc, ◌+ℤ◌, neg_ℤ, ltb, eqb, Ok, refl, sym, ap, subst, ◌∙◌, arith, mul-lt-mul_of_pos_right, div-add-mod', mod-lt}
+use Rattle.std.proofs.Common.{ℕ, zero, suc, ◌≡◌, ◌+◌, ◌-◌, ◌*◌, ◌/◌, ◌%◌, ◌^◌, ◌<◌, ◌≤◌, ◌⊎◌, inl, inr, Bool, true}
+use Rattle.std.proofs.Common.{false, not, cond, ◌&&◌}
+use Rattle.std.proofs.Common.{ℤ, pos, negsuc, ◌+ℤ◌, neg_ℤ, ltb, eqb, Ok, refl, sym, ap, subst, ◌∙◌, arith}
+use Rattle.std.proofs.Common.{mul-lt-mul_of_pos_right, div-add-mod', mod-lt}
 use Rattle.std.proofs.Common.{mul-pos}
 use Rattle.std.proofs.lemmas.Nat.{mod-mul-add}
 use Rattle.std.proofs.lemmas.Int.{ints}
@@ -32,9 +34,11 @@ settled_whole (fin t m e) s q v h =
 -- a fraction that is whole, rounded, has its value
 pub rounds : (s : Bool) (p c q : ℕ) → 0 < c → p ≡ q * c → q ≤ 2 ^ 53 → HasValue (round binary64 s p c) s q 1
 rounds s p c q z e h =
-    subst (λ (x : Float). HasValue x s q 1) (sym (round_same binary64 s p c q 1 z (omega arith) (omega (arith, e)))) (round_whole binary64 s q h)
+    subst (λ (x : Float). HasValue x s q 1) (sym (round_same binary64 s p c q 1 z (omega arith) (omega (arith, e))))
+    (round_whole binary64 s q h)
 
-pub settles : (s : Bool) (p c q : ℕ) → 0 < c → p ≡ q * c → q ≤ 2 ^ 53 → settled (round binary64 s p c) ≡ Ok (Whole (signed s q))
+pub settles : (s : Bool) (p c q : ℕ) → 0 < c → p ≡ q * c → q ≤ 2 ^ 53 → settled (round binary64 s p c)
+    ≡ Ok (Whole (signed s q))
 settles s p c q z e h = settled_whole (round binary64 s p c) s q (rounds s p c q z e h) h
 
 -- ---- sums
@@ -46,8 +50,10 @@ alike false a b = omega (arith, ints)
 sum_alike : (s : Bool) (p q c a b : ℕ) → 0 < c → p ≡ a * c → q ≡ b * c → a + b ≤ 2 ^ 53
     → settled (sum binary64 s p s q c) ≡ Ok (Whole (signed s a +ℤ signed s b))
 unfolding sum
-sum_alike true p q c a b z e f h = settles true (p + q) c (a + b) z (omega (arith, e, f)) h ∙ ap (λ (n : ℤ). Ok (Whole n)) (alike true a b)
-sum_alike false p q c a b z e f h = settles false (p + q) c (a + b) z (omega (arith, e, f)) h ∙ ap (λ (n : ℤ). Ok (Whole n)) (alike false a b)
+sum_alike true p q c a b z e f h = settles true (p + q) c (a + b) z (omega (arith, e, f)) h
+    ∙ ap (λ (n : ℤ). Ok (Whole n)) (alike true a b)
+sum_alike false p q c a b z e f h = settles false (p + q) c (a + b) z (omega (arith, e, f)) h
+    ∙ ap (λ (n : ℤ). Ok (Whole n)) (alike false a b)
 
 -- of two signs
 less : (s : Bool) (a b : ℕ) → a < b → signed (not s) (b - a) ≡ signed s a +ℤ signed (not s) b
@@ -68,24 +74,28 @@ kept false = refl
 
 apart : (s : Bool) (p q c a b : ℕ) → 0 < c → p ≡ a * c → q ≡ b * c → a ≤ 2 ^ 53 → b ≤ 2 ^ 53
     → (a < b) ⊎ ((a ≡ b) ⊎ (b < a))
-    → settled (cond (ltb p q) (round binary64 (not s) (q - p) c) (round binary64 (s && ltb q p) (p - q) c)) ≡ Ok (Whole (signed s a +ℤ signed (not s) b))
+    → settled (cond (ltb p q) (round binary64 (not s) (q - p) c) (round binary64 (s && ltb q p) (p - q) c))
+    ≡ Ok (Whole (signed s a +ℤ signed (not s) b))
 apart s p q c a b z e f ha hb (inl l) =
     let under : p < q = omega (arith, e, f, mul-lt-mul_of_pos_right l z) in
-    rw (lt-ltb p q under) (settles (not s) (q - p) c (b - a) z (omega (arith, e, f, ap (λ (n : ℕ). n * c) (back a b l))) (omega arith) ∙ ap (λ (n : ℤ). Ok (Whole n)) (less s a b l))
+    rw (lt-ltb p q under) (settles (not s) (q - p) c (b - a) z (omega (arith, e, f, ap (λ (n : ℕ). n * c) (back a b l)))
+    (omega arith) ∙ ap (λ (n : ℤ). Ok (Whole n)) (less s a b l))
   where
     back : (a b : ℕ) → a < b → b - a + a ≡ b
     back a b h = omega arith
 apart s p q c a b z e f ha hb (inr (inl l)) =
     let same : p ≡ q = e ∙ ap (λ (n : ℕ). n * c) l ∙ sym f in
     rw (le-ltb q p (omega (arith, same)), le-ltb p q (omega (arith, same)))
-    (settles (s && false) (p - q) c 0 z (omega (arith, same)) (omega arith) ∙ ap (λ (n : ℤ). Ok (Whole n)) (sign_of_zero s ∙ ap (signed s) (gone a b l) ∙ no_less s a b (omega (arith, l))))
+    (settles (s && false) (p - q) c 0 z (omega (arith, same)) (omega arith) ∙ ap (λ (n : ℤ). Ok (Whole n))
+    (sign_of_zero s ∙ ap (signed s) (gone a b l) ∙ no_less s a b (omega (arith, l))))
   where
     gone : (a b : ℕ) → a ≡ b → 0 ≡ a - b
     gone a b h = omega (arith, h)
 apart s p q c a b z e f ha hb (inr (inr l)) =
     let over : q < p = omega (arith, e, f, mul-lt-mul_of_pos_right l z) in
     rw (le-ltb p q (omega (arith, over)), lt-ltb q p over, kept s)
-    (settles s (p - q) c (a - b) z (omega (arith, e, f, ap (λ (n : ℕ). n * c) (back b a l))) (omega arith) ∙ ap (λ (n : ℤ). Ok (Whole n)) (no_less s a b (omega (arith, l))))
+    (settles s (p - q) c (a - b) z (omega (arith, e, f, ap (λ (n : ℕ). n * c) (back b a l))) (omega arith)
+    ∙ ap (λ (n : ℤ). Ok (Whole n)) (no_less s a b (omega (arith, l))))
   where
     back : (a b : ℕ) → a < b → b - a + a ≡ b
     back a b h = omega arith
@@ -93,7 +103,8 @@ apart s p q c a b z e f ha hb (inr (inr l)) =
 three : (a b : ℕ) → (a < b) ⊎ ((a ≡ b) ⊎ (b < a))
 three a b = grind arith
 
-sum_whole : (s t : Bool) (p q c a b : ℕ) → 0 < c → p ≡ a * c → q ≡ b * c → a ≤ 2 ^ 53 → b ≤ 2 ^ 53 → (s ≡ t → a + b ≤ 2 ^ 53)
+sum_whole : (s t : Bool) (p q c a b : ℕ) → 0 < c → p ≡ a * c → q ≡ b * c → a ≤ 2 ^ 53 → b ≤ 2 ^ 53
+    → (s ≡ t → a + b ≤ 2 ^ 53)
     → settled (sum binary64 s p t q c) ≡ Ok (Whole (signed s a +ℤ signed t b))
 unfolding sum
 sum_whole true true p q c a b z e f ha hb h = sum_alike true p q c a b z e f (h refl)
@@ -101,7 +112,8 @@ sum_whole false false p q c a b z e f ha hb h = sum_alike false p q c a b z e f 
 sum_whole true false p q c a b z e f ha hb h = apart true p q c a b z e f ha hb (three a b)
 sum_whole false true p q c a b z e f ha hb h = apart false p q c a b z e f ha hb (three a b)
 
-pub add_whole : (x y : Float) (s t : Bool) (a b : ℕ) → HasValue x s a 1 → HasValue y t b 1 → a ≤ 2 ^ 53 → b ≤ 2 ^ 53 → (s ≡ t → a + b ≤ 2 ^ 53)
+pub add_whole : (x y : Float) (s t : Bool) (a b : ℕ) → HasValue x s a 1 → HasValue y t b 1 → a ≤ 2 ^ 53 → b ≤ 2 ^ 53
+    → (s ≡ t → a + b ≤ 2 ^ 53)
     → settled (add binary64 x y) ≡ Ok (Whole (signed s a +ℤ signed t b))
 unfolding add
 add_whole nan y s t a b v w ha hb h = absurd v
@@ -135,14 +147,16 @@ mul_whole (fin u m e) nan s t a b v w h = absurd w
 mul_whole (fin u m e) (inf k) s t a b v w h = absurd w
 mul_whole (fin u m e) (fin k n d) s t a b v w h =
     rw (v.0, w.0)
-    (settles (unlike s t) (m * up e * (n * up d)) (down e * down d) (a * b) (mul-pos (down_pos e) (down_pos d)) (product (m * up e) (n * up d) a b (down e) (down d) v.1 w.1) h)
+    (settles (unlike s t) (m * up e * (n * up d)) (down e * down d) (a * b) (mul-pos (down_pos e) (down_pos d))
+    (product (m * up e) (n * up d) a b (down e) (down d) v.1 w.1) h)
 
 -- ---- quotients
 no_zero : (n u b d : ℕ) → n * u * 1 ≡ b * d → 0 < b → 0 < d → eqb n 0 ≡ false
 no_zero zero u b d e p q = absurd (omega (arith, e, mul-pos p q))
 no_zero (suc n) u b d e p q = ne_eqb (suc n) 0 (λ h. omega (arith, h))
 
-pub div_whole : (x y : Float) (s t : Bool) (a b q : ℕ) → HasValue x s a 1 → HasValue y t b 1 → 0 < b → a ≡ q * b → q ≤ 2 ^ 53
+pub div_whole : (x y : Float) (s t : Bool) (a b q : ℕ) → HasValue x s a 1 → HasValue y t b 1 → 0 < b → a ≡ q * b
+    → q ≤ 2 ^ 53
     → settled (div binary64 x y) ≡ Ok (Whole (signed (unlike s t) q))
 unfolding div
 div_whole nan y s t a b q v w z r h = absurd v
@@ -150,9 +164,11 @@ div_whole (inf u) y s t a b q v w z r h = absurd v
 div_whole (fin u m e) nan s t a b q v w z r h = absurd w
 div_whole (fin u m e) (inf k) s t a b q v w z r h = absurd w
 div_whole (fin u m e) (fin k n d) s t a b q v w z r h =
-    let above : m * up e * down d ≡ q * (n * up d * down e) = quotient (m * up e) (n * up d) a b q (down e) (down d) v.1 w.1 r in
+    let above : m * up e * down d ≡ q * (n * up d * down e) = quotient (m * up e) (n * up d) a b q (down e)
+    (down d) v.1 w.1 r in
     let below : 0 < n * up d * down e = positive (n * up d) b (down e) (down d) w.1 z (down_pos e) (down_pos d) in
-    rw (v.0, w.0, no_zero n (up d) b (down d) w.1 z (down_pos d)) (settles (unlike s t) (m * up e * down d) (n * up d * down e) q below above h)
+    rw (v.0, w.0, no_zero n (up d) b (down d) w.1 z (down_pos d)) (settles (unlike s t) (m * up e * down d)
+    (n * up d * down e) q below above h)
   where
     quotient : (p r a b q c d : ℕ) → p * 1 ≡ a * c → r * 1 ≡ b * d → a ≡ q * b → p * d ≡ q * (r * c)
     quotient p r a b q c d e f g =
@@ -169,7 +185,8 @@ div_whole (fin u m e) (fin k n d) s t a b q v w z r h =
 pub mod_scaled : (a b c : ℕ) → 0 < b → 0 < c → (a * c) % (b * c) ≡ a % b * c
 mod_scaled a b c p q =
     let parts : a / b * (b * c) + a % b * c ≡ a * c = omega (arith, ap (λ (n : ℕ). n * c) (div-add-mod' a b)) in
-    ap (λ (n : ℕ). n % (b * c)) (sym parts) ∙ mod-mul-add (a / b) (b * c) (a % b * c) (mul-lt-mul_of_pos_right (mod-lt a p) q)
+    ap (λ (n : ℕ). n % (b * c)) (sym parts) ∙ mod-mul-add (a / b) (b * c) (a % b * c)
+    (mul-lt-mul_of_pos_right (mod-lt a p) q)
 
 pub rem_whole : (x y : Float) (s t : Bool) (a b : ℕ) → HasValue x s a 1 → HasValue y t b 1 → 0 < b → a ≤ 2 ^ 53
     → settled (rem binary64 x y) ≡ Ok (Whole (signed s (a % b)))
@@ -182,7 +199,8 @@ rem_whole (fin u m e) (fin k n d) s t a b v w z h =
     rw (v.0, no_zero n (up d) b (down d) w.1 z (down_pos d))
     (settles s (m * up e * down d % (n * up d * down e)) (down e * down d) (a % b) (mul-pos (down_pos e) (down_pos d))
     (both (m * up e * down d) (n * up d * down e) a b (down e * down d)
-    (omega (arith, ap (λ (i : ℕ). i * down d) v.1)) (omega (arith, ap (λ (i : ℕ). i * down e) w.1)) z (mul-pos (down_pos e) (down_pos d)))
+    (omega (arith, ap (λ (i : ℕ). i * down d) v.1)) (omega (arith, ap (λ (i : ℕ). i * down e) w.1)) z
+    (mul-pos (down_pos e) (down_pos d)))
     (omega (arith, h, mod_le a b)))
   where
     both : (p q a b c : ℕ) → p ≡ a * c → q ≡ b * c → 0 < b → 0 < c → p % q ≡ a % b * c

@@ -1,5 +1,6 @@
 -- A script that goes on behind a newline is read as before it, and then as what follows by itself.
-use Rattle.std.proofs.Common.{◌≡◌, ℕ, suc, ◌+◌, ◌<◌, Bool, true, false, not, List, [], ◌∷◌, ◌++◌, length, map, fold, All, sym, ap, refl, subst, ◌∙◌, arith}
+use Rattle.std.proofs.Common.{◌≡◌, ℕ, suc, ◌+◌, ◌<◌, Bool, true, false, not, List, [], ◌∷◌, ◌++◌, length, map, fold}
+use Rattle.std.proofs.Common.{All, sym, ap, refl, subst, ◌∙◌, arith}
 use Rattle.std.proofs.lemmas.List.{append_assoc, append-nil, map-append}
 use Rattle.std.proofs.lemmas.List.Sums.{fold-append}
 use Rattle.std.specs.List.{flat_map}
@@ -14,12 +15,16 @@ use Rattle.awk_sources.specs.Parts.{Word, word_of, newline, IsRead, ReadsEach, l
 use Rattle.awk_sources.proofs.OnLemmas.{gap_on}
 use Rattle.awk_sources.proofs.TokenLemmas.{first_on, newline_first}
 
-pub read_on : (front rest behind : Text) (tokens : List Token) → ReadsTo front tokens rest → ReadsTo front tokens (rest ++ 10 ∷ behind)
+pub read_on : (front rest behind : Text) (tokens : List Token) → ReadsTo front tokens rest
+    → ReadsTo front tokens (rest ++ 10 ∷ behind)
 read_on _ _ behind _ (begun script) = begun (script ++ 10 ∷ behind)
 read_on _ _ behind _ (a_gap front gap rest tokens before h) =
-    a_gap front gap (rest ++ 10 ∷ behind) tokens (subst (λ w. ReadsTo front tokens w) (append_assoc gap rest (10 ∷ behind)) (read_on front (gap ++ rest) behind tokens before)) (gap_on gap rest behind h)
+    a_gap front gap (rest ++ 10 ∷ behind) tokens (subst (λ w. ReadsTo front tokens w)
+    (append_assoc gap rest (10 ∷ behind)) (read_on front (gap ++ rest) behind tokens before))
+    (gap_on gap rest behind h)
 read_on _ _ behind _ (a_token front text rest tokens kind before h) =
-    a_token front text (rest ++ 10 ∷ behind) tokens kind (subst (λ w. ReadsTo front tokens w) (append_assoc text rest (10 ∷ behind)) (read_on front (text ++ rest) behind tokens before))
+    a_token front text (rest ++ 10 ∷ behind) tokens kind (subst (λ w. ReadsTo front tokens w)
+    (append_assoc text rest (10 ∷ behind)) (read_on front (text ++ rest) behind tokens before))
     (first_on (operand_after tokens) kind text rest behind h)
 
 -- ---- whether an operand may follow is told by the words
@@ -34,9 +39,11 @@ fold_words : (start : Bool) (tokens : List Token) → fold goes start tokens ≡
 fold_words start [] = refl
 fold_words start (t ∷ tokens) = fold_words (goes start t) tokens
 
-operand_moved : (before moved tokens : List Token) → operand_after before ≡ true → map word_of moved ≡ map word_of tokens → operand_after (before ++ moved) ≡ operand_after tokens
+operand_moved : (before moved tokens : List Token) → operand_after before ≡ true
+    → map word_of moved ≡ map word_of tokens → operand_after (before ++ moved) ≡ operand_after tokens
 operand_moved before moved tokens begins same =
-    fold-append goes true before moved ∙ ap (λ s. fold goes s moved) begins ∙ fold_words true moved ∙ ap (fold goes_word true) same ∙ sym (fold_words true tokens)
+    fold-append goes true before moved ∙ ap (λ s. fold goes s moved) begins ∙ fold_words true moved
+    ∙ ap (fold goes_word true) same ∙ sym (fold_words true tokens)
 
 -- ---- a script behind this front is read by the same words
 
@@ -45,29 +52,38 @@ record Moved (lead front rest : Text) (before tokens : List Token) : Type 0 wher
   read : ReadsTo (lead ++ front) (before ++ moved) rest
   same : map word_of moved ≡ map word_of tokens
 
-moved_on : (lead : Text) (before : List Token) (script front rest : Text) (tokens : List Token) → operand_after before ≡ true → ReadsTo lead before script → script ≡ front ++ rest → ReadsTo front tokens rest → Moved lead front rest before tokens
+moved_on : (lead : Text) (before : List Token) (script front rest : Text) (tokens : List Token)
+    → operand_after before ≡ true → ReadsTo lead before script → script ≡ front ++ rest → ReadsTo front tokens rest
+    → Moved lead front rest before tokens
 moved_on lead before script _ _ _ begins base parts (begun rest) =
     record {
       moved = [];
-      read = subst (λ w. ReadsTo w (before ++ []) rest) (sym (append-nil lead)) (subst (λ ts. ReadsTo lead ts rest) (sym (append-nil before)) (subst (λ w. ReadsTo lead before w) parts base));
+      read = subst (λ w. ReadsTo w (before ++ []) rest) (sym (append-nil lead)) (subst (λ ts. ReadsTo lead ts rest)
+          (sym (append-nil before)) (subst (λ w. ReadsTo lead before w) parts base));
       same = refl;
     }
 moved_on lead before script _ _ _ begins base parts (a_gap front gap rest tokens prior h) =
-    let m = moved_on lead before script front (gap ++ rest) tokens begins base (parts ∙ append_assoc front gap rest) prior in
+    let m = moved_on lead before script front (gap ++ rest) tokens begins base (parts ∙ append_assoc front gap rest)
+    prior in
     record {
       moved = m.moved;
-      read = subst (λ w. ReadsTo w (before ++ m.moved) rest) (append_assoc lead front gap) (a_gap (lead ++ front) gap rest (before ++ m.moved) m.read h);
+      read = subst (λ w. ReadsTo w (before ++ m.moved) rest) (append_assoc lead front gap)
+          (a_gap (lead ++ front) gap rest (before ++ m.moved) m.read h);
       same = m.same;
     }
 moved_on lead before script _ _ _ begins base parts (a_token front text rest tokens kind prior h) =
-    let m = moved_on lead before script front (text ++ rest) tokens begins base (parts ∙ append_assoc front text rest) prior in
+    let m = moved_on lead before script front (text ++ rest) tokens begins base (parts ∙ append_assoc front text rest)
+    prior in
     let t = token_of (lead ++ front) kind text in
-    let first : IsFirst (operand_after (before ++ m.moved)) kind text rest = subst (λ o. IsFirst o kind text rest) (sym (operand_moved before m.moved tokens begins m.same)) h in
+    let first : IsFirst (operand_after (before ++ m.moved)) kind text rest = subst (λ o. IsFirst o kind text rest)
+    (sym (operand_moved before m.moved tokens begins m.same)) h in
     record {
       moved = m.moved ++ t ∷ [];
       read = subst (λ w. ReadsTo w (before ++ (m.moved ++ t ∷ [])) rest) (append_assoc lead front text)
-          (subst (λ ts. ReadsTo ((lead ++ front) ++ text) ts rest) (append_assoc before m.moved (t ∷ [])) (a_token (lead ++ front) text rest (before ++ m.moved) kind m.read first));
-      same = map-append word_of m.moved (t ∷ []) ∙ ap (λ ws. ws ++ word_of t ∷ []) m.same ∙ sym (map-append word_of tokens (token_of front kind text ∷ []));
+          (subst (λ ts. ReadsTo ((lead ++ front) ++ text) ts rest) (append_assoc before m.moved (t ∷ []))
+          (a_token (lead ++ front) text rest (before ++ m.moved) kind m.read first));
+      same = map-append word_of m.moved (t ∷ []) ∙ ap (λ ws. ws ++ word_of t ∷ []) m.same
+          ∙ sym (map-append word_of tokens (token_of front kind text ∷ []));
     }
 
 -- ---- several texts
@@ -79,16 +95,20 @@ abbrev IsReadAs : List Text → List Word → Type 0
 IsReadAs texts words = (tokens : List Token) × Reads (joined texts) tokens × (map word_of tokens ≡ words)
 
 two_read : (text behind : Text) (tokens others : List Token) → Reads text tokens → Reads behind others
-    → (all : List Token) × Reads (text ++ 10 ∷ behind) all × (map word_of all ≡ map word_of tokens ++ newline ∷ map word_of others)
+    → (all : List Token) × Reads (text ++ 10 ∷ behind) all
+    × (map word_of all ≡ map word_of tokens ++ newline ∷ map word_of others)
 two_read text behind tokens others one two =
     let sign = token_of text Sign (10 ∷ []) in
     let before = tokens ++ sign ∷ [] in
-    let seam : ReadsTo (text ++ 10 ∷ []) before behind = a_token text (10 ∷ []) behind tokens Sign (read_on text [] behind tokens one) (newline_first (operand_after tokens) behind) in
+    let seam : ReadsTo (text ++ 10 ∷ []) before behind = a_token text (10 ∷ []) behind tokens Sign
+    (read_on text [] behind tokens one) (newline_first (operand_after tokens) behind) in
     let begins : operand_after before ≡ true = fold-append goes true tokens (sign ∷ []) in
     let m = moved_on (text ++ 10 ∷ []) before behind behind [] others begins seam (sym (append-nil behind)) two in (
       before ++ m.moved,
       subst (λ w. Reads w (before ++ m.moved)) (append_assoc text (10 ∷ []) behind) m.read,
-      map-append word_of before m.moved ∙ ap (λ ws. map word_of before ++ ws) m.same ∙ ap (λ ws. ws ++ map word_of others) (map-append word_of tokens (sign ∷ [])) ∙ append_assoc (map word_of tokens) (newline ∷ []) (map word_of others),
+      map-append word_of before m.moved ∙ ap (λ ws. map word_of before ++ ws) m.same
+          ∙ ap (λ ws. ws ++ map word_of others) (map-append word_of tokens (sign ∷ [])) ∙ append_assoc
+          (map word_of tokens) (newline ∷ []) (map word_of others),
     )
 
 each_read : (texts : List Text) (words : List Word) → ReadsEach texts words → IsReadAs texts words
@@ -105,16 +125,25 @@ first_of text texts h = h 0 [] (omega arith)
 others_of : (text : Text) (texts : List Text) → All IsRead (text ∷ texts) → All IsRead texts
 others_of text texts h = λ k d below. h (suc k) d (omega arith)
 
-all_each : (text : Text) (texts : List Text) → All IsRead (text ∷ texts) → (words : List Word) × ReadsEach (text ∷ texts) words
+all_each : (text : Text) (texts : List Text) → All IsRead (text ∷ texts) → (words : List Word)
+    × ReadsEach (text ∷ texts) words
 all_each text [] h = let one = first_of text [] h in (map word_of one.0, last text one.0 one.1)
 all_each text (next ∷ texts) h =
     let one = first_of text (next ∷ texts) h in
     let rest = all_each next texts (others_of text (next ∷ texts) h) in
     (map word_of one.0 ++ newline ∷ rest.0, more text next texts one.0 rest.0 one.1 rest.1)
 
-pub read_by_text : (texts : List Text) (whole : Text) → 1 < length texts → All IsRead texts → whole ≡ joined texts → IsReadByText texts whole
+pub read_by_text : (texts : List Text) (whole : Text) → 1 < length texts → All IsRead texts → whole ≡ joined texts
+    → IsReadByText texts whole
 read_by_text [] whole several h is = absurd (omega arith)
 read_by_text (text ∷ texts) whole several h is =
     let each = all_each text texts h in
     let all = each_read (text ∷ texts) each.0 each.1 in
-    record { words = each.0; each = each.1; tokens = all.0; reads = subst (λ w. Reads w all.0) (sym is) all.1; same = all.2 }
+    record {
+      words = each.0;
+      each = each.1;
+      tokens = all.0;
+      reads = subst (λ w. Reads w all.0) (sym is) all.1;
+      same =
+          all.2;
+    }

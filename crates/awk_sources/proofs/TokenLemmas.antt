@@ -1,5 +1,7 @@
 -- The token that stands first stands first too where the text goes on with a newline.
-use Rattle.std.proofs.Common.{◌≡◌, ◌≢◌, ℕ, ◌+◌, Bool, true, false, not, ◌&&◌, ◌||◌, cond, eqb, List, [], ◌∷◌, ◌++◌, length, slice_index, Option, Some, None, option_map, sym, ap, refl, subst, ◌∙◌, inl, inr, arith}
+use Rattle.std.proofs.Common.{◌≡◌, ◌≢◌, ℕ, ◌+◌, Bool, true, false, not, ◌&&◌, ◌||◌, cond, eqb, List, [], ◌∷◌, ◌++◌}
+use Rattle.std.proofs.Common.{length, slice_index, Option, Some, None, option_map, sym, ap, refl, subst, ◌∙◌, inl, inr}
+use Rattle.std.proofs.Common.{arith}
 use Rattle.std.specs.Char.{is_ascii_digit}
 use Rattle.std.specs.List.{list_all, list_any}
 use Rattle.std.specs.Str.{bytes_eq}
@@ -17,8 +19,10 @@ use Rattle.awk_tokens.specs.Patterns.{PatternEnds}
 use Rattle.awk_tokens.specs.Scan.{string_rest, pattern_rest}
 use Rattle.awk_tokens.specs.Tokens.{is_number, IsToken, IsWord, NoLonger, is_whole, IsWhole, IsFirst}
 use Rattle.awk_tokens.specs.declared.kinds.TokenKind.{TokenKind}
-use Rattle.awk_tokens.specs.declared.kinds.TokenKind.TheVariants.{Number, Quoted, Pattern, Keyword, Builtin, Refused, Name, CallName, Sign}
-use Rattle.awk_tokens.proofs.FirstLemmas.{Family, a_number, a_word, a_string, a_pattern, a_sign, family_of, family_at, family_told, as_string, as_pattern, as_sign, head_is, tail_is}
+use Rattle.awk_tokens.specs.declared.kinds.TokenKind.TheVariants.{Number, Quoted, Pattern, Keyword, Builtin, Refused}
+use Rattle.awk_tokens.specs.declared.kinds.TokenKind.TheVariants.{Name, CallName, Sign}
+use Rattle.awk_tokens.proofs.FirstLemmas.{Family, a_number, a_word, a_string, a_pattern, a_sign, family_of, family_at}
+use Rattle.awk_tokens.proofs.FirstLemmas.{family_told, as_string, as_pattern, as_sign, head_is, tail_is}
 use Rattle.awk_tokens.proofs.PatternLemmas.{pattern_rest_at}
 use Rattle.awk_tokens.proofs.StringLemmas.{string_rest_at}
 use Rattle.awk_sources.proofs.OnLemmas.{pattern_on}
@@ -33,13 +37,20 @@ name_kind_on (b ∷ rest) more = refl
 word_on : (kind : TokenKind) (text rest more : Text) → IsWord kind text rest → IsWord kind text (rest ++ 10 ∷ more)
 word_on kind text rest more h = (h.0, ap (λ k. kind_or (reserved text) k) (name_kind_on rest more) ∙ h.1)
 
-body_on : (part : _) (body rest more : Text) → PatternEnds part (body ++ rest) rest → PatternEnds part (body ++ (rest ++ 10 ∷ more)) (rest ++ 10 ∷ more)
-body_on part body rest more h = subst (λ w. PatternEnds part w (rest ++ 10 ∷ more)) (append_assoc body rest (10 ∷ more)) (pattern_on part (body ++ rest) rest more h)
+body_on : (part : _) (body rest more : Text) → PatternEnds part (body ++ rest) rest
+    → PatternEnds part (body ++ (rest ++ 10 ∷ more)) (rest ++ 10 ∷ more)
+body_on part body rest more h = subst (λ w. PatternEnds part w (rest ++ 10 ∷ more)) (append_assoc body rest (10 ∷ more))
+    (pattern_on part (body ++ rest) rest more h)
 
-token_on : (operand : Bool) (kind : TokenKind) (text rest more : Text) → IsToken operand kind text rest → IsToken operand kind text (rest ++ 10 ∷ more)
+token_on : (operand : Bool) (kind : TokenKind) (text rest more : Text) → IsToken operand kind text rest
+    → IsToken operand kind text (rest ++ 10 ∷ more)
 token_on operand Number text rest more h = h
-token_on operand Quoted text rest more h =
-    (h.0, h.1, subst (λ w. StringEnds w (rest ++ 10 ∷ more)) (append_assoc h.0 rest (10 ∷ more)) (string_on (h.0 ++ rest) rest (10 ∷ more) h.2))
+token_on operand Quoted text rest more h = (
+  h.0,
+  h.1,
+  subst (λ w. StringEnds w (rest ++ 10 ∷ more)) (append_assoc h.0 rest (10 ∷ more))
+      (string_on (h.0 ++ rest) rest (10 ∷ more) h.2),
+)
 token_on operand Pattern text rest more h =
     (h.0, h.1, h.2, body_on _ h.0 rest more h.3)
 token_on operand Sign text rest more h = h
@@ -84,7 +95,8 @@ no_token_empty operand CallName rest h = no_word_empty CallName rest h
 
 -- ---- what a token of a family is
 
-as_number : (operand : Bool) (kind : TokenKind) (text rest : Text) → family_of kind ≡ a_number → IsToken operand kind text rest → is_number text ≡ true
+as_number : (operand : Bool) (kind : TokenKind) (text rest : Text) → family_of kind ≡ a_number
+    → IsToken operand kind text rest → is_number text ≡ true
 as_number operand Number text rest e h = h
 as_number operand Quoted text rest e h = absurd cc
 as_number operand Pattern text rest e h = absurd cc
@@ -95,7 +107,8 @@ as_number operand Refused text rest e h = absurd cc
 as_number operand Name text rest e h = absurd cc
 as_number operand CallName text rest e h = absurd cc
 
-as_name : (operand : Bool) (kind : TokenKind) (text rest : Text) → family_of kind ≡ a_word → IsToken operand kind text rest → is_name text ≡ true
+as_name : (operand : Bool) (kind : TokenKind) (text rest : Text) → family_of kind ≡ a_word
+    → IsToken operand kind text rest → is_name text ≡ true
 as_name operand Number text rest e h = absurd cc
 as_name operand Quoted text rest e h = absurd cc
 as_name operand Pattern text rest e h = absurd cc
@@ -111,7 +124,8 @@ word_kind_of (listed.Builtin which) = refl
 word_kind_of listed.Refused = refl
 word_kind_of _ = refl
 
-word_kinds : (found : Option Terminal) (call : Bool) → family_of (kind_or (option_map kind_of found) (cond call CallName Name)) ≡ a_word
+word_kinds : (found : Option Terminal) (call : Bool)
+    → family_of (kind_or (option_map kind_of found) (cond call CallName Name)) ≡ a_word
 word_kinds None true = refl
 word_kinds None false = refl
 word_kinds (Some t) call = word_kind_of t
@@ -120,7 +134,8 @@ word_family_of : (text rest : Text) → family_of (word_kind text rest) ≡ a_wo
 word_family_of text rest = word_kinds (lookup words text) (eqb (slice_index rest 0) 40)
 
 -- a word of its kind is that token
-word_is : (operand : Bool) (kind : TokenKind) (text rest : Text) → family_of kind ≡ a_word → IsWord kind text rest → IsToken operand kind text rest
+word_is : (operand : Bool) (kind : TokenKind) (text rest : Text) → family_of kind ≡ a_word → IsWord kind text rest
+    → IsToken operand kind text rest
 word_is operand Number text rest e h = absurd cc
 word_is operand Quoted text rest e h = absurd cc
 word_is operand Pattern text rest e h = absurd cc
@@ -135,16 +150,19 @@ word_is operand CallName text rest e h = h
 
 -- a longer token of this family adds nothing, where the rest goes on with a newline
 abbrev Adds : Bool → Text → Text → Text → TokenKind → Type 0
-Adds operand text rest more other = (added left : Text) → rest ++ 10 ∷ more ≡ added ++ left → IsToken operand other (text ++ added) left → added ≡ []
+Adds operand text rest more other = (added left : Text) → rest ++ 10 ∷ more ≡ added ++ left
+    → IsToken operand other (text ++ added) left → added ≡ []
 
 -- a run of bytes that pass, one more of them, and what is added behind
-run_parts : (p : ℕ → Bool) (z added : Text) (c : ℕ) → list_all p (z ++ c ∷ added) ≡ true → (list_all p z ≡ true) × (p c ≡ true)
+run_parts : (p : ℕ → Bool) (z added : Text) (c : ℕ) → list_all p (z ++ c ∷ added) ≡ true → (list_all p z ≡ true)
+    × (p c ≡ true)
 run_parts p z added c all =
     let both = and_parts (list_all p z) (list_all p (c ∷ added)) (sym (list_all-append p z (c ∷ added)) ∙ all) in
     (both.0, (and_parts (p c) (list_all p added) both.1).0)
 
 run_one : (p : ℕ → Bool) (z : Text) (c : ℕ) → list_all p z ≡ true → p c ≡ true → list_all p (z ++ c ∷ []) ≡ true
-run_one p z c all passes = list_all-append p z (c ∷ []) ∙ ap (λ t. t && list_all p (c ∷ [])) all ∙ ap (λ t. t && true) passes
+run_one p z c all passes = list_all-append p z (c ∷ []) ∙ ap (λ t. t && list_all p (c ∷ [])) all
+    ∙ ap (λ t. t && true) passes
 
 no_digit_newline : is_ascii_digit 10 ≡ false
 no_digit_newline = refl
@@ -152,30 +170,40 @@ no_digit_newline = refl
 no_name_newline : continues_name 10 ≡ false
 no_name_newline = refl
 
-number_adds : (operand : Bool) (b : ℕ) (z rest more added left : Text) → NoLonger operand (b ∷ z) rest → rest ++ 10 ∷ more ≡ added ++ left → is_number (b ∷ (z ++ added)) ≡ true → added ≡ []
+number_adds : (operand : Bool) (b : ℕ) (z rest more added left : Text) → NoLonger operand (b ∷ z) rest
+    → rest ++ 10 ∷ more ≡ added ++ left → is_number (b ∷ (z ++ added)) ≡ true → added ≡ []
 number_adds operand b z rest more [] left none parts all = refl
 number_adds operand b z [] more (c ∷ added) left none parts all =
-    let run = run_parts is_ascii_digit z added c (and_parts (is_ascii_digit b) (list_all is_ascii_digit (z ++ c ∷ added)) all).1 in
-    absurd (true≢false (sym run.1 ∙ ap is_ascii_digit (sym (head_is 10 c more (added ++ left) parts)) ∙ no_digit_newline))
+    let run = run_parts is_ascii_digit z added c
+    (and_parts (is_ascii_digit b) (list_all is_ascii_digit (z ++ c ∷ added)) all).1 in
+    absurd (true≢false (sym run.1 ∙ ap is_ascii_digit (sym (head_is 10 c more (added ++ left) parts))
+    ∙ no_digit_newline))
 number_adds operand b z (r ∷ rest) more (c ∷ added) left none parts all =
     let both = and_parts (is_ascii_digit b) (list_all is_ascii_digit (z ++ c ∷ added)) all in
     let run = run_parts is_ascii_digit z added c both.1 in
-    let token : is_number (b ∷ (z ++ c ∷ [])) ≡ true = ap (λ t. t && list_all is_ascii_digit (z ++ c ∷ [])) both.0 ∙ run_one is_ascii_digit z c run.0 run.1 in
-    let nothing = none Number (c ∷ []) rest (ap (λ x. x ∷ rest) (head_is r c (rest ++ 10 ∷ more) (added ++ left) parts)) token in
+    let token : is_number (b ∷ (z ++ c ∷ [])) ≡ true = ap (λ t. t && list_all is_ascii_digit (z ++ c ∷ [])) both.0
+    ∙ run_one is_ascii_digit z c run.0 run.1 in
+    let nothing = none Number (c ∷ []) rest (ap (λ x. x ∷ rest) (head_is r c (rest ++ 10 ∷ more) (added ++ left) parts))
+    token in
     absurd cc
 
-word_adds : (operand : Bool) (b : ℕ) (z rest more added left : Text) → NoLonger operand (b ∷ z) rest → rest ++ 10 ∷ more ≡ added ++ left → is_name (b ∷ (z ++ added)) ≡ true → added ≡ []
+word_adds : (operand : Bool) (b : ℕ) (z rest more added left : Text) → NoLonger operand (b ∷ z) rest
+    → rest ++ 10 ∷ more ≡ added ++ left → is_name (b ∷ (z ++ added)) ≡ true → added ≡ []
 word_adds operand b z rest more [] left none parts all = refl
 word_adds operand b z [] more (c ∷ added) left none parts all =
-    let run = run_parts continues_name z added c (and_parts (begins_name b) (list_all continues_name (z ++ c ∷ added)) all).1 in
-    absurd (true≢false (sym run.1 ∙ ap continues_name (sym (head_is 10 c more (added ++ left) parts)) ∙ no_name_newline))
+    let run = run_parts continues_name z added c (and_parts (begins_name b) (list_all continues_name (z ++ c ∷ added))
+    all).1 in
+    absurd (true≢false (sym run.1 ∙ ap continues_name (sym (head_is 10 c more (added ++ left) parts))
+    ∙ no_name_newline))
 word_adds operand b z (r ∷ rest) more (c ∷ added) left none parts all =
     let both = and_parts (begins_name b) (list_all continues_name (z ++ c ∷ added)) all in
     let run = run_parts continues_name z added c both.1 in
     let text : Text = b ∷ (z ++ c ∷ []) in
-    let name : is_name text ≡ true = ap (λ t. t && list_all continues_name (z ++ c ∷ [])) both.0 ∙ run_one continues_name z c run.0 run.1 in
+    let name : is_name text ≡ true = ap (λ t. t && list_all continues_name (z ++ c ∷ [])) both.0
+    ∙ run_one continues_name z c run.0 run.1 in
     let token = word_is operand (word_kind text rest) text rest (word_family_of text rest) (name, refl) in
-    let nothing = none (word_kind text rest) (c ∷ []) rest (ap (λ x. x ∷ rest) (head_is r c (rest ++ 10 ∷ more) (added ++ left) parts)) token in
+    let nothing = none (word_kind text rest) (c ∷ []) rest
+    (ap (λ x. x ∷ rest) (head_is r c (rest ++ 10 ∷ more) (added ++ left) parts)) token in
     absurd cc
 
 -- a text and its rest, taken back from another rest of it
@@ -187,26 +215,33 @@ some_is : (x y : Text) → Some x ≡ Some y → x ≡ y
 some_is x y e = cc
 
 -- what stands in a text behind its first byte, once more behind it
-same_whole : (z body other rest added left : Text) → z ≡ body → z ++ added ≡ other → rest ≡ added ++ left → other ++ left ≡ body ++ rest
+same_whole : (z body other rest added left : Text) → z ≡ body → z ++ added ≡ other → rest ≡ added ++ left
+    → other ++ left ≡ body ++ rest
 same_whole z body other rest added left is is_other parts =
-    ap (λ w. w ++ left) (sym is_other) ∙ append_assoc z added left ∙ ap (λ w. z ++ w) (sym parts) ∙ ap (λ w. w ++ rest) is
+    ap (λ w. w ++ left) (sym is_other) ∙ append_assoc z added left ∙ ap (λ w. z ++ w) (sym parts)
+    ∙ ap (λ w. w ++ rest) is
 
-string_adds : (operand : Bool) (b : ℕ) (z rest added left : Text) → IsToken operand Quoted (b ∷ z) rest → rest ≡ added ++ left → IsToken operand Quoted (b ∷ (z ++ added)) left → added ≡ []
+string_adds : (operand : Bool) (b : ℕ) (z rest added left : Text) → IsToken operand Quoted (b ∷ z) rest
+    → rest ≡ added ++ left → IsToken operand Quoted (b ∷ (z ++ added)) left → added ≡ []
 string_adds operand b z rest added left h parts o =
-    let whole = same_whole z h.0 o.0 rest added left (tail_is b 34 z h.0 h.1) (tail_is b 34 (z ++ added) o.0 o.1) parts in
+    let whole = same_whole z h.0 o.0 rest added left (tail_is b 34 z h.0 h.1) (tail_is b 34 (z ++ added) o.0 o.1) parts
+    in
     let one = string_rest_at (h.0 ++ rest) rest h.2 in
     let two = string_rest_at (o.0 ++ left) left o.2 in
     no_rest added left (sym parts ∙ some_is rest left (sym one ∙ sym (ap (string_rest false) whole) ∙ two))
 
-pattern_adds : (operand : Bool) (b : ℕ) (z rest added left : Text) → IsToken operand Pattern (b ∷ z) rest → rest ≡ added ++ left → IsToken operand Pattern (b ∷ (z ++ added)) left → added ≡ []
+pattern_adds : (operand : Bool) (b : ℕ) (z rest added left : Text) → IsToken operand Pattern (b ∷ z) rest
+    → rest ≡ added ++ left → IsToken operand Pattern (b ∷ (z ++ added)) left → added ≡ []
 pattern_adds operand b z rest added left h parts o =
-    let whole = same_whole z h.0 o.0 rest added left (tail_is b 47 z h.0 h.1) (tail_is b 47 (z ++ added) o.0 o.1) parts in
+    let whole = same_whole z h.0 o.0 rest added left (tail_is b 47 z h.0 h.1) (tail_is b 47 (z ++ added) o.0 o.1) parts
+    in
     let one = pattern_rest_at _ (h.0 ++ rest) rest h.3 in
     let two = pattern_rest_at _ (o.0 ++ left) left o.3 in
     no_rest added left (sym parts ∙ some_is rest left (sym one ∙ sym (ap (pattern_rest _ 0) whole) ∙ two))
 
 -- no sign has the newline second
-listed_text : (p : Text → Bool) (xs : List Text) (t : Text) → list_any (λ s. bytes_eq s t) xs ≡ true → list_any p xs ≡ false → p t ≡ false
+listed_text : (p : Text → Bool) (xs : List Text) (t : Text) → list_any (λ s. bytes_eq s t) xs ≡ true
+    → list_any p xs ≡ false → p t ≡ false
 listed_text p [] t among none = absurd cc
 listed_text p (x ∷ xs) t among none =
     let parts = or_parts (p x) (list_any p xs) none in
@@ -220,7 +255,9 @@ double_no_newline b is =
     let other = listed_text (λ s. eqb (slice_index s 1) 10) doubles (b ∷ 10 ∷ []) is refl in
     true≢false other
 
-sign_adds : (operand : Bool) (b : ℕ) (z rest more added left : Text) → is_sign (b ∷ z) ≡ true → (operand ≡ true → b ≢ 47) → NoLonger operand (b ∷ z) rest → rest ++ 10 ∷ more ≡ added ++ left → is_sign (b ∷ (z ++ added)) ≡ true
+sign_adds : (operand : Bool) (b : ℕ) (z rest more added left : Text) → is_sign (b ∷ z) ≡ true
+    → (operand ≡ true → b ≢ 47) → NoLonger operand (b ∷ z) rest → rest ++ 10 ∷ more ≡ added ++ left
+    → is_sign (b ∷ (z ++ added)) ≡ true
     → added ≡ []
 sign_adds operand b z rest more [] left sign slash none parts all = refl
 sign_adds operand b (x ∷ y ∷ z) rest more (c ∷ added) left sign slash none parts all = absurd cc
@@ -229,31 +266,53 @@ sign_adds operand b [] rest more (c ∷ d ∷ added) left sign slash none parts 
 sign_adds operand b [] [] more (c ∷ []) left sign slash none parts all =
     absurd (double_no_newline b (ap (is_double b) (head_is 10 c more left parts) ∙ all))
 sign_adds operand b [] (r ∷ rest) more (c ∷ []) left sign slash none parts all =
-    let nothing = none Sign (c ∷ []) rest (ap (λ x. x ∷ rest) (head_is r c (rest ++ 10 ∷ more) left parts)) (all, slash) in
+    let nothing = none Sign (c ∷ []) rest (ap (λ x. x ∷ rest) (head_is r c (rest ++ 10 ∷ more) left parts)) (
+      all,
+      slash,
+    ) in
     absurd cc
 
-adds_nothing : (operand : Bool) (kind other : TokenKind) (b : ℕ) (z rest more : Text) → IsToken operand kind (b ∷ z) rest → NoLonger operand (b ∷ z) rest → family_of other ≡ family_of kind → Adds operand (b ∷ z) rest more other
-adds_nothing operand Number other b z rest more h none same added left parts o = number_adds operand b z rest more added left none parts (as_number operand other (b ∷ (z ++ added)) left same o)
+adds_nothing : (operand : Bool) (kind other : TokenKind) (b : ℕ) (z rest more : Text)
+    → IsToken operand kind (b ∷ z) rest → NoLonger operand (b ∷ z) rest → family_of other ≡ family_of kind
+    → Adds operand (b ∷ z) rest more other
+adds_nothing operand Number other b z rest more h none same added left parts o =
+    number_adds operand b z rest more added left none parts (as_number operand other (b ∷ (z ++ added)) left same o)
 adds_nothing operand Quoted other b z rest more h none same added left parts o =
-    string_adds operand b z (rest ++ 10 ∷ more) added left (token_on operand Quoted (b ∷ z) rest more h) parts (as_string operand other (b ∷ (z ++ added)) left same o)
+    string_adds operand b z (rest ++ 10 ∷ more) added left (token_on operand Quoted (b ∷ z) rest more h) parts
+    (as_string operand other (b ∷ (z ++ added)) left same o)
 adds_nothing operand Pattern other b z rest more h none same added left parts o =
-    pattern_adds operand b z (rest ++ 10 ∷ more) added left (token_on operand Pattern (b ∷ z) rest more h) parts (as_pattern operand other (b ∷ (z ++ added)) left same o)
-adds_nothing operand Sign other b z rest more h none same added left parts o = sign_adds operand b z rest more added left h.0 h.1 none parts (as_sign operand other (b ∷ (z ++ added)) left same o)
-adds_nothing operand Keyword other b z rest more h none same added left parts o = word_adds operand b z rest more added left none parts (as_name operand other (b ∷ (z ++ added)) left same o)
-adds_nothing operand Builtin other b z rest more h none same added left parts o = word_adds operand b z rest more added left none parts (as_name operand other (b ∷ (z ++ added)) left same o)
-adds_nothing operand Refused other b z rest more h none same added left parts o = word_adds operand b z rest more added left none parts (as_name operand other (b ∷ (z ++ added)) left same o)
-adds_nothing operand Name other b z rest more h none same added left parts o = word_adds operand b z rest more added left none parts (as_name operand other (b ∷ (z ++ added)) left same o)
-adds_nothing operand CallName other b z rest more h none same added left parts o = word_adds operand b z rest more added left none parts (as_name operand other (b ∷ (z ++ added)) left same o)
+    pattern_adds operand b z (rest ++ 10 ∷ more) added left (token_on operand Pattern (b ∷ z) rest more h) parts
+    (as_pattern operand other (b ∷ (z ++ added)) left same o)
+adds_nothing operand Sign other b z rest more h none same added left parts o =
+    sign_adds operand b z rest more added left h.0 h.1 none parts (as_sign operand other (b ∷ (z ++ added)) left same o)
+adds_nothing operand Keyword other b z rest more h none same added left parts o =
+    word_adds operand b z rest more added left none parts (as_name operand other (b ∷ (z ++ added)) left same o)
+adds_nothing operand Builtin other b z rest more h none same added left parts o =
+    word_adds operand b z rest more added left none parts (as_name operand other (b ∷ (z ++ added)) left same o)
+adds_nothing operand Refused other b z rest more h none same added left parts o =
+    word_adds operand b z rest more added left none parts (as_name operand other (b ∷ (z ++ added)) left same o)
+adds_nothing operand Name other b z rest more h none same added left parts o =
+    word_adds operand b z rest more added left none parts (as_name operand other (b ∷ (z ++ added)) left same o)
+adds_nothing operand CallName other b z rest more h none same added left parts o =
+    word_adds operand b z rest more added left none parts (as_name operand other (b ∷ (z ++ added)) left same o)
 
-longest_on : (operand : Bool) (kind : TokenKind) (text rest more : Text) → IsToken operand kind text rest → NoLonger operand text rest → NoLonger operand text (rest ++ 10 ∷ more)
+longest_on : (operand : Bool) (kind : TokenKind) (text rest more : Text) → IsToken operand kind text rest
+    → NoLonger operand text rest → NoLonger operand text (rest ++ 10 ∷ more)
 longest_on operand kind [] rest more h none = absurd (no_token_empty operand kind rest h)
 longest_on operand kind (b ∷ z) rest more h none =
     λ other added left parts o.
-    adds_nothing operand kind other b z rest more h none (sym (family_told operand other b (z ++ added) left o) ∙ family_told operand kind b z rest h) added left parts o
+    adds_nothing operand kind other b z rest more h none (sym (family_told operand other b (z ++ added) left o)
+    ∙ family_told operand kind b z rest h) added left parts o
 
-pub first_on : (operand : Bool) (kind : TokenKind) (text rest more : Text) → IsFirst operand kind text rest → IsFirst operand kind text (rest ++ 10 ∷ more)
+pub first_on : (operand : Bool) (kind : TokenKind) (text rest more : Text) → IsFirst operand kind text rest
+    → IsFirst operand kind text (rest ++ 10 ∷ more)
 first_on operand kind text rest more h =
-    record { token = token_on operand kind text rest more h.token; longest = longest_on operand kind text rest more h.token h.longest; whole = whole_on kind text rest more h.whole }
+    record {
+      token = token_on operand kind text rest more h.token;
+      longest =
+          longest_on operand kind text rest more h.token h.longest;
+      whole = whole_on kind text rest more h.whole;
+    }
 
 -- ---- the newline is a token wherever it stands first
 
@@ -266,6 +325,7 @@ pub newline_first : (operand : Bool) (rest : Text) → IsFirst operand Sign (10 
 newline_first operand rest =
     record {
       token = (refl, λ is e. absurd (omega arith));
-      longest = λ other added left parts o. newline_alone added (as_sign operand other (10 ∷ added) left (sym (family_told operand other 10 added left o)) o);
+      longest = λ other added left parts o. newline_alone added (as_sign operand other (10 ∷ added) left
+          (sym (family_told operand other 10 added left o)) o);
       whole = tt;
     }

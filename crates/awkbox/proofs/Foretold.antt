@@ -24,17 +24,21 @@ same_run one text items s r x y setup steps =
 
 pub text_covered : OneProgram → ScriptCovered → TextCovered
 text_covered one law text s sites listed reads setup steps events o used last plays =
-    law listed.1 listed.0 sites listed.2.of listed.3 (given_of s setup steps) events o used last (same_run one text listed.1 listed.0 s listed.2 reads setup steps) plays
+    law listed.1 listed.0 sites listed.2.of listed.3 (given_of s setup steps) events o used last
+    (same_run one text listed.1 listed.0 s listed.2 reads setup steps) plays
 
 pub text_allowed : OnePolicy → OneProgram → ScriptAllowed → TextAllowed
 text_allowed policies one law base policy text book s judged written reads setup steps events o used last plays =
     let found = judged.2 in
-    let clean : IsVerdictOf found.0 found.1 book Clean = subst (λ b. IsVerdictOf found.0 found.1 b Clean) (one_under policies base policy judged.0 book judged.1 written) found.3 in
-    law found.1 found.0 book found.2.of clean (given_of s setup steps) events o used last (same_run one text found.1 found.0 s found.2 reads setup steps) plays
+    let clean : IsVerdictOf found.0 found.1 book Clean = subst (λ b. IsVerdictOf found.0 found.1 b Clean)
+    (one_under policies base policy judged.0 book judged.1 written) found.3 in
+    law found.1 found.0 book found.2.of clean (given_of s setup steps) events o used last
+    (same_run one text found.1 found.0 s found.2 reads setup steps) plays
 
 pub text_denied : OnePolicy → ScriptDenied → TextDenied
 text_denied policies law base policy text book refused site judged written c =
     let found = judged.2 in
     let of : IsVerdictOf found.0 found.1 book (Refused refused) =
-    subst (λ b. IsVerdictOf found.0 found.1 b (Refused refused)) (one_under policies base policy judged.0 book judged.1 written) found.3 in
+    subst (λ b. IsVerdictOf found.0 found.1 b (Refused refused)) (one_under policies base policy judged.0 book judged.1
+    written) found.3 in
     law found.1 found.0 book refused site of c

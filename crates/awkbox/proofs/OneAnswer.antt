@@ -1,12 +1,14 @@
 -- A question has one right answer.
-use Rattle.std.proofs.Common.{◌≡◌, ℕ, Bool, true, false, List, ◌∷◌, ◌<◌, length, Option, refl, sym, ◌∙◌, ap, subst, true≢false, arith}
+use Rattle.std.proofs.Common.{◌≡◌, ℕ, Bool, true, false, List, ◌∷◌, ◌<◌, length, Option, refl, sym, ◌∙◌, ap, subst}
+use Rattle.std.proofs.Common.{true≢false, arith}
 use Rattle.std.specs.Prelude.{Some, None, option_to_list}
 use Rattle.awk_ere.specs.Spelled.{Finds}
 use Rattle.awk_ere.proofs.Unique.{memory_alone}
 use Rattle.awk_fields.specs.Separators.{IsEre, IsNoEre}
 use Rattle.awk_fields.proofs.Bests.{match_le}
 use Rattle.awk_program.specs.Slots.{Text}
-use Rattle.awk_machine.specs.Questions.{Question, Spells, Matches, Finds as FindsIn, Divides, Fields, Answer, Is, Places, Texts, Values, Right}
+use Rattle.awk_machine.specs.Questions.{Question, Spells, Matches, Finds as FindsIn, Divides, Fields, Answer, Is}
+use Rattle.awk_machine.specs.Questions.{Places, Texts, Values, Right}
 use Rattle.awk_lib.specs.Replacing as all
 use Rattle.awk_lib.specs.Replacing.{AllFrom, Found, next_from, is_passed}
 use Rattle.awk_ere.proofs.Alone.{one_finding, one_test}
@@ -28,9 +30,11 @@ module _ (source text : Text) where
   no_match {from = from} {m = m} h g = none_some (one_finding source text from None (Some m) h g)
 
   outside : {from : ℕ} {m : ℕ × ℕ} → length text < from → Finds source text from (Some m) → ⊥
-  outside {m = m} h (p, is, best) = let le = match_le text p m.0 m.1 best.matches in omega (arith, best.after, best.within)
+  outside {m = m} h (p, is, best) = let le = match_le text p m.0 m.1 best.matches in
+      omega (arith, best.after, best.within)
 
-  one_all : {from : ℕ} {last : Option ℕ} {ms ns : List (ℕ × ℕ)} → AllFrom source text from last ms → AllFrom source text from last ns → ms ≡ ns
+  one_all : {from : ℕ} {last : Option ℕ} {ms ns : List (ℕ × ℕ)} → AllFrom source text from last ms
+      → AllFrom source text from last ns → ms ≡ ns
   one_all (all.behind from last h) (all.behind a b g) = refl
   one_all (all.behind from last h) (all.no_more a b g) = refl
   one_all (all.behind from last h) (all.passed a b m rest g i c) = absurd (outside h g)

@@ -1,5 +1,6 @@
 -- A policy lets through all that opens and shuts: what it denies has failed.
-use Rattle.std.proofs.Common.{◌≡◌, ◌∙◌, ℕ, Bool, true, false, not, List, [], ◌∷◌, ◌++◌, Option, refl, sym, ap, subst, true≢false}
+use Rattle.std.proofs.Common.{◌≡◌, ◌∙◌, ℕ, Bool, true, false, not, List, [], ◌∷◌, ◌++◌, Option, refl, sym, ap, subst}
+use Rattle.std.proofs.Common.{true≢false}
 use Rattle.std.specs.Prelude.{Some, None, if◌then◌else◌, is_none, IsSome}
 use Rattle.awk_text.specs.declared.place.Place.{Place}
 use Rattle.box_monitor.specs.Asked.{AllFailed, FailsIfDenied, after, asked as passed}
@@ -35,7 +36,8 @@ some (Some x) h = refl
 denied_turn : (book : Rulebook) (c : Call) (n : ℕ) (b : Bool) (cs : List Call) → FailsIfDenied book c →
     is_none (denial_of book c.0) ≡ false → TakesTurns n b (c ∷ cs) →
     TakesTurns n b cs
-denied_turn book c n true cs failed d t = subst (λ z. TakesTurns n (not z) cs) (quiet book c.0.place c.0.given c.0.request n d).0 t.1
+denied_turn book c n true cs failed d t = subst (λ z. TakesTurns n (not z) cs)
+    (quiet book c.0.place c.0.given c.0.request n d).0 t.1
 denied_turn book c n false cs failed d t =
     let r = failed (some (denial_of book c.0) d) in
     subst (λ z. TakesTurns n z cs) (ap (opens n c.0.request) r ∙ (quiet book c.0.place c.0.given c.0.request n d).1) t.1
@@ -72,4 +74,5 @@ all_failed book (e ∷ es) h =
 
 pub passed_shut : NumbersShut → PassedShut
 passed_shut law book g es o n w x whole =
-    λ k. subst (TakesTurns k false) (asked-calls book es x.failed) (passed_turns book k false (calls es) (all_failed book es x.failed) (law g es o n w x.plays whole k))
+    λ k. subst (TakesTurns k false) (asked-calls book es x.failed) (passed_turns book k false (calls es)
+    (all_failed book es x.failed) (law g es o n w x.plays whole k))

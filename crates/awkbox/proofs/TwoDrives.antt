@@ -24,8 +24,10 @@ one_run : (book other : Rulebook) (g h : Given) (es fs : List Event) (o p : Outc
     Alike (replies (passed_on book es)) (replies (passed_on other fs)) → IsWhole o → IsWhole p →
     SameDrive book other es fs o p m n
 one_run book other g h es fs o p m n v w law e f x y like whole too =
-    let z : PlaysUnder book g fs p n w = subst (λ b. PlaysUnder b g fs p n w) e (subst (λ a. PlaysUnder other a fs p n w) f y) in
-    let same = law book g es fs o p m n v w x z (subst (λ b. Alike (replies (passed_on book es)) (replies (passed_on b fs))) e like) whole too in
+    let z : PlaysUnder book g fs p n w = subst (λ b. PlaysUnder b g fs p n w) e
+    (subst (λ a. PlaysUnder other a fs p n w) f y) in
+    let same = law book g es fs o p m n v w x z
+    (subst (λ b. Alike (replies (passed_on book es)) (replies (passed_on b fs))) e like) whole too in
     record {
       policy = sym e;
       events = same.events ∙ ap (λ b. passed_on b fs) (sym e);
@@ -60,4 +62,5 @@ module _ {V W K L : Type 0}
   two_drives policies one law policy script setup steps v v' w w' k k' l l' o p m n end end' x y like whole too =
       let book = policies policy y.book x.book y.accepted.written x.accepted.written in
       let same = same_script one script y.spelled x.spelled y.accepted.read x.accepted.read in
-      one_run x.book y.book _ _ x.drives.events y.drives.events o p m n x.drives.last y.drives.last law book (same_given y.spelled x.spelled setup steps same) x.drives.plays y.drives.plays like whole too
+      one_run x.book y.book _ _ x.drives.events y.drives.events o p m n x.drives.last y.drives.last law book
+      (same_given y.spelled x.spelled setup steps same) x.drives.plays y.drives.plays like whole too

@@ -13,7 +13,8 @@ told_none base text book written (Ok lint) found =
     subst (λ r. Tells base text r lint.unreached.items) (sym found.accepted) (book, written, found.rules)
 told_none base text book written (Err e) found = tt
 
-pub told_refused : {E : Type 0} (base : Option (List ℕ)) (text : List ℕ) (error : PolicyError) → IsRefusedUnder base text error →
+pub told_refused : {E : Type 0} (base : Option (List ℕ)) (text : List ℕ) (error : PolicyError)
+    → IsRefusedUnder base text error →
     (result : Result Findings E) → IfOk result (FindsRefused error) → IfOk result (Lints base text)
 told_refused base text error refused (Ok lint) found =
     subst (λ r. Tells base text r lint.unreached.items) (sym found.refused) (refused, found.not_memory)

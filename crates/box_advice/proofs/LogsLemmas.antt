@@ -1,5 +1,6 @@
 -- Lemmas on the lines of a log.
-use Rattle.std.proofs.Common.{◌≡◌, ℕ, ◌<◌, ◌≤◌, ◌+◌, ◌^◌, Bool, true, false, cond, List, [], ◌∷◌, ◌++◌, length, length-append, get_or, refl, sym, ap, subst, ◌∙◌, append_assoc, inl, inr, arith}
+use Rattle.std.proofs.Common.{◌≡◌, ℕ, ◌<◌, ◌≤◌, ◌+◌, ◌^◌, Bool, true, false, cond, List, [], ◌∷◌, ◌++◌, length}
+use Rattle.std.proofs.Common.{length-append, get_or, refl, sym, ap, subst, ◌∙◌, append_assoc, inl, inr, arith}
 use Rattle.std.specs.Prelude.{◌==◌, ◌⊎◌, All, IfOk, IfSome, Result, Ok, Err, Option, Some, None, codes, if◌then◌else◌}
 use Rattle.std.specs.List.{concat}
 use Rattle.std.specs.Fmt.{decimal}
@@ -13,7 +14,8 @@ use Rattle.box_monitor.specs.Subjects.{Subject}
 use Rattle.box_policy.specs.declared.policy.Kind.{Kind}
 use Rattle.box_policy.specs.declared.policy.Kind.TheVariants.{Read, Write, Append, Run, Env, Assign}
 use Rattle.box_advice.specs.LogLines.{HasNo, IsPlace, IsWord, joined, place_text}
-use Rattle.box_advice.specs.Logs.{AreLines, Fails, Gathers, IsDenial, IsLogRefused, IsPassed, IsRead, IsRule, Tells, with_wish}
+use Rattle.box_advice.specs.Logs.{AreLines, Fails, Gathers, IsDenial, IsLogRefused, IsPassed, IsRead, IsRule, Tells}
+use Rattle.box_advice.specs.Logs.{with_wish}
 use Rattle.box_advice.specs.declared.denials.LogError.TheVariants.{Line}
 use Rattle.box_advice.specs.declared.wishes.Wish.{Wish}
 use Rattle.box_advice.proofs.LogLinesLemmas.{no_blank}
@@ -55,17 +57,20 @@ no_blank_in_word word (inr (inr (inr h))) = subst (HasNo 32) (sym h.2) (no_blank
 -- ---- a line
 
 line_form : (line column kind word quoted : List ℕ)
-    → concat (line ∷ codes ":" ∷ column ∷ codes " " ∷ kind ∷ codes " " ∷ word ∷ codes " \"" ∷ []) ++ quoted ++ codes "\"\n"
+    → concat (line ∷ codes ":" ∷ column ∷ codes " " ∷ kind ∷ codes " " ∷ word ∷ codes " \"" ∷ []) ++ quoted
+    ++ codes "\"\n"
     ≡ joined (line ++ 58 ∷ column) kind word quoted ++ 10 ∷ []
 line_form line column kind word quoted = simp append_assoc
 
 pub denial_joined : (text : List ℕ) (place : Place) (subject : Subject) → IsDenial text place subject
-    → (word : List ℕ) × IsWord word × (text ≡ joined (place_text place) (kind_word subject.kind) word (quoted subject.text))
+    → (word : List ℕ) × IsWord word
+    × (text ≡ joined (place_text place) (kind_word subject.kind) word (quoted subject.text))
 denial_joined text place subject h = (
   rule_word h.0,
   word h.0 h.1,
   append_cancel_right text _ (10 ∷ []) (h.2
-      ∙ line_form (decimal place.line) (decimal place.column) (kind_word subject.kind) (rule_word h.0) (quoted subject.text)),
+      ∙ line_form (decimal place.line) (decimal place.column) (kind_word subject.kind) (rule_word h.0)
+      (quoted subject.text)),
 )
   where
     word : (rule : Option ℕ) → IsRule rule → IsWord (rule_word rule)
@@ -73,12 +78,14 @@ denial_joined text place subject h = (
     word (Some n) small = inr (inr (inr (n, small, refl)))
 
 pub passed_joined : (text : List ℕ) (place : Place) (subject : Subject) → IsPassed text place subject
-    → (word : List ℕ) × IsWord word × (text ≡ joined (place_text place) (kind_word subject.kind) word (quoted subject.text))
+    → (word : List ℕ) × IsWord word
+    × (text ≡ joined (place_text place) (kind_word subject.kind) word (quoted subject.text))
 passed_joined text place subject h = (
   outcome_word h.0,
   word h.0,
   append_cancel_right text _ (10 ∷ []) (h.1
-      ∙ line_form (decimal place.line) (decimal place.column) (kind_word subject.kind) (outcome_word h.0) (quoted subject.text)),
+      ∙ line_form (decimal place.line) (decimal place.column) (kind_word subject.kind) (outcome_word h.0)
+      (quoted subject.text)),
 )
   where
     word : (failed : Bool) → IsWord (outcome_word failed)
@@ -104,10 +111,12 @@ pub joined_written : (text : List ℕ) (place : Place) (subject : Subject) (word
 joined_written text place subject word is e = by is
   where
     form : (w : List ℕ) → word ≡ w
-        → text ++ 10 ∷ [] ≡ concat (decimal place.line ∷ codes ":" ∷ decimal place.column ∷ codes " " ∷ kind_word subject.kind
+        → text ++ 10 ∷ [] ≡ concat (decimal place.line ∷ codes ":" ∷ decimal place.column ∷ codes " " ∷ kind_word
+        subject.kind
         ∷ codes " " ∷ w ∷ codes " \"" ∷ []) ++ quoted subject.text ++ codes "\"\n"
     form w same =
-        ap (λ t. t ++ 10 ∷ []) (e ∙ ap (λ v. joined (place_text place) (kind_word subject.kind) v (quoted subject.text)) same)
+        ap (λ t. t ++ 10 ∷ []) (e ∙ ap (λ v. joined (place_text place) (kind_word subject.kind) v (quoted subject.text))
+        same)
         ∙ sym (line_form (decimal place.line) (decimal place.column) (kind_word subject.kind) w (quoted subject.text))
 
     by : IsWord word → IsDenial text place subject ⊎ IsPassed text place subject
@@ -143,8 +152,10 @@ lines_exist (byte ∷ text) = more (lines_exist text).0 (lines_exist text).1 (by
             → ((text ≡ line) × (0 < length line) × (lines ≡ []))
             ⊎ ((more : List ℕ) × (text ≡ line ++ 10 ∷ more) × AreLines more lines)
             → (all : List (List ℕ)) × AreLines (byte ∷ text) all
-        longer line lines lacks e (inl h) = ((byte ∷ line) ∷ lines, ((e, lacks), inl (ap (λ t. byte ∷ t) h.0, omega arith, h.2)))
-        longer line lines lacks e (inr h) = ((byte ∷ line) ∷ lines, ((e, lacks), inr (h.0, ap (λ t. byte ∷ t) h.1, h.2)))
+        longer line lines lacks e (inl h) =
+            ((byte ∷ line) ∷ lines, ((e, lacks), inl (ap (λ t. byte ∷ t) h.0, omega arith, h.2)))
+        longer line lines lacks e (inr h) =
+            ((byte ∷ line) ∷ lines, ((e, lacks), inr (h.0, ap (λ t. byte ∷ t) h.1, h.2)))
 
 pub ended_line : (text front back : List ℕ) (lines : List (List ℕ)) → HasNo 10 front → text ≡ front ++ 10 ∷ back
     → AreLines back lines → AreLines text (front ∷ lines)
@@ -167,25 +178,35 @@ none_left (byte ∷ rest) e = absurd (omega (arith, e))
 
 -- what was read of a log, up to before the line of a number, with what is left of it
 pub record Behind (log : List ℕ) (number : ℕ) (before : List Wish) (rest : List ℕ) : Type 0 where
-  pub reads : (lines : List (List ℕ)) (wishes : List Wish) → AreLines rest lines → Gathers (number + 1) before lines wishes
+  pub reads : (lines : List (List ℕ)) (wishes : List Wish) → AreLines rest lines
+      → Gathers (number + 1) before lines wishes
       → IsRead log wishes
   pub fails : (lines : List (List ℕ)) (failed : ℕ) → AreLines rest lines → Fails (number + 1) lines failed
       → IsLogRefused log (Line failed)
 
 pub begins : (log : List ℕ) → Behind log 0 [] log
-begins log = record { reads = λ lines wishes are all. (lines, are, all); fails = λ lines failed are all. (lines, are, all) }
+begins log = record {
+  reads = λ lines wishes are all. (lines, are, all);
+  fails = λ lines failed are all. (
+    lines,
+    are,
+    all,
+  );
+}
 
 abbrev pub Leads : (rest line after : List ℕ) → Type 0
 Leads rest line after = (lines : List (List ℕ)) → AreLines after lines → AreLines rest (line ∷ lines)
 
-pub goes_on : (log rest line after : List ℕ) (number : ℕ) (before : List Wish) (wish : Wish) → Tells (number + 1) line wish
+pub goes_on : (log rest line after : List ℕ) (number : ℕ) (before : List Wish) (wish : Wish)
+    → Tells (number + 1) line wish
     → Leads rest line after → Behind log number before rest → Behind log (number + 1) (with_wish before wish) after
 goes_on log rest line after number before wish tells leads b = record {
   reads = λ lines wishes are all. b.reads (line ∷ lines) wishes (leads lines are) (wish, tells, all);
   fails = λ lines failed are all. b.fails (line ∷ lines) failed (leads lines are) (inr (wish, tells, all));
 }
 
-pub ends : (log rest : List ℕ) (number : ℕ) (before : List Wish) → rest ≡ [] → Behind log number before rest → IsRead log before
+pub ends : (log rest : List ℕ) (number : ℕ) (before : List Wish) → rest ≡ [] → Behind log number before rest
+    → IsRead log before
 ends log rest number before none b = b.reads [] before none refl
 
 pub breaks : (log rest line after : List ℕ) (number : ℕ) (before : List Wish)

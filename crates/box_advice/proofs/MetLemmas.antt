@@ -1,5 +1,6 @@
 -- Lemmas on the wishes of a log that were met.
-use Rattle.std.proofs.Common.{◌≡◌, ℕ, Ordering, Bool, true, false, cond, ◌||◌, not, List, [], ◌∷◌, ◌++◌, refl, sym, ap, ◌∙◌}
+use Rattle.std.proofs.Common.{◌≡◌, ℕ, Ordering, Bool, true, false, cond, ◌||◌, not, List, [], ◌∷◌, ◌++◌, refl, sym, ap}
+use Rattle.std.proofs.Common.{◌∙◌}
 use Rattle.std.specs.Prelude.{Vec, if◌then◌else◌}
 use Rattle.std.specs.BTreeMap.{is_at}
 use Rattle.std.specs.BTreeSet.{BTreeSet, contains}
@@ -37,13 +38,15 @@ abbrev pub asks_for : List ℕ → Wish → Bool
 asks_for request wish = bytes_eq (request_of wish) request
 
 -- one more is met
-pub met_more : (wishes : List Wish) (wish : Wish) (old new : BTreeSet (Vec ℕ Global)) (key : Vec ℕ Global) → key.items ≡ request_of wish
+pub met_more : (wishes : List Wish) (wish : Wish) (old new : BTreeSet (Vec ℕ Global)) (key : Vec ℕ Global)
+    → key.items ≡ request_of wish
     → ((q : Vec ℕ Global) → contains compared new q ≡ cond (is_at (compared key) q) true (contains compared old q))
     → ((q : Vec ℕ Global) → contains compared old q ≡ list_any (asks_for q.items) wishes)
     → (q : Vec ℕ Global) → contains compared new q ≡ list_any (asks_for q.items) (wishes ++ wish ∷ [])
 met_more wishes wish old new key is updated before q =
     updated q
-    ∙ ap (λ b. cond b true (contains compared old q)) (is_eq-slice_cmp key.items q.items ∙ ap (λ t. bytes_eq t q.items) is)
+    ∙ ap (λ b. cond b true (contains compared old q)) (is_eq-slice_cmp key.items q.items ∙ ap (λ t. bytes_eq t q.items)
+    is)
     ∙ ap (λ b. cond (asks_for q.items wish) true b) (before q)
     ∙ sym (any_more (asks_for q.items) wishes wish)
 
@@ -60,7 +63,8 @@ none_more wishes wish request is met =
 
 pub none_met : (wishes : List Wish) (met : BTreeSet (Vec ℕ Global)) → met.keys ≡ [] → wishes ≡ []
     → (q : Vec ℕ Global) → contains compared met q ≡ list_any (asks_for q.items) wishes
-none_met wishes met no_key no_wish q = ap (list_any (is_at (compared q))) no_key ∙ sym (ap (list_any (asks_for q.items)) no_wish)
+none_met wishes met no_key no_wish q = ap (list_any (is_at (compared q))) no_key
+    ∙ sym (ap (list_any (asks_for q.items)) no_wish)
 
 pub same_met : (wishes : List Wish) (old new : BTreeSet (Vec ℕ Global)) → new.keys ≡ old.keys
     → ((q : Vec ℕ Global) → contains compared old q ≡ list_any (asks_for q.items) wishes)

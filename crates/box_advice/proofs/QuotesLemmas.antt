@@ -1,5 +1,7 @@
 -- Lemmas on texts that a log quotes.
-use Rattle.std.proofs.Common.{◌≡◌, ℕ, zero, suc, ◌<◌, ◌≤◌, ◌+◌, ◌/◌, ◌%◌, Bool, true, false, cond, List, [], ◌∷◌, ◌++◌, length, get_or, drop, refl, sym, ap, subst, ◌∙◌, append_assoc, length-drop, take, ◌-◌, inl, inr, arith}
+use Rattle.std.proofs.Common.{◌≡◌, ℕ, zero, suc, ◌<◌, ◌≤◌, ◌+◌, ◌/◌, ◌%◌, Bool, true, false, cond, List, [], ◌∷◌, ◌++◌}
+use Rattle.std.proofs.Common.{length, get_or, drop, refl, sym, ap, subst, ◌∙◌, append_assoc, length-drop, take, ◌-◌}
+use Rattle.std.proofs.Common.{inl, inr, arith}
 use Rattle.std.specs.Prelude.{All, ◌⊎◌}
 use Rattle.std.proofs.lemmas.Bool.{false≢true}
 use Rattle.std.proofs.lemmas.Grind.{common_steps}
@@ -16,7 +18,8 @@ not_backslash byte plain e = false≢true (subst (λ b. is_plain b ≡ true) e p
 cases_at : (byte : ℕ) (more text : List ℕ) (plain : Bool) → is_plain byte ≡ plain → text ≡ quoted_byte byte ++ more
     → ((byte ≡ 92 → ⊥) × (text ≡ byte ∷ more)) ⊎ (text ≡ escape byte more)
 unfolding quoted_byte
-cases_at byte more text true plain e = inl (not_backslash byte plain, e ∙ ap (λ b. (cond b (byte ∷ []) (escape byte [])) ++ more) plain)
+cases_at byte more text true plain e =
+    inl (not_backslash byte plain, e ∙ ap (λ b. (cond b (byte ∷ []) (escape byte [])) ++ more) plain)
 cases_at byte more text false plain e = inr (e ∙ ap (λ b. (cond b (byte ∷ []) (escape byte [])) ++ more) plain)
 
 -- a byte is quoted as itself, or by its digits
@@ -35,7 +38,8 @@ pub plain_here : (byte : ℕ) (more text : List ℕ) → text ≡ quoted_byte by
     → (get_or text 0 0 ≡ byte) × (drop 1 text ≡ more)
 plain_here byte more text e other = by (quoted_cases byte more text e)
   where
-    by : ((byte ≡ 92 → ⊥) × (text ≡ byte ∷ more)) ⊎ (text ≡ escape byte more) → (get_or text 0 0 ≡ byte) × (drop 1 text ≡ more)
+    by : ((byte ≡ 92 → ⊥) × (text ≡ byte ∷ more)) ⊎ (text ≡ escape byte more) → (get_or text 0 0 ≡ byte)
+        × (drop 1 text ≡ more)
     by (inl p) = (ap (λ t. get_or t 0 0) p.1, ap (drop 1) p.1)
     by (inr p) = absurd (other (ap (λ t. get_or t 0 0) p))
 
@@ -54,7 +58,8 @@ rest_is line = take_all (length line - 1) (drop 1 line) (omega (arith, length-dr
 abbrev pub AreBytes : List ℕ → Type 0
 AreBytes text = All (λ byte. byte < 256) text
 
-pub bytes_from : (text : List ℕ) → ((k : ℕ) → get_or text k 0 < 256) → (k d : ℕ) → k < length text → get_or text k d < 256
+pub bytes_from : (text : List ℕ) → ((k : ℕ) → get_or text k 0 < 256) → (k d : ℕ) → k < length text
+    → get_or text k d < 256
 bytes_from [] all k d l = absurd (omega (arith, l))
 bytes_from (byte ∷ text) all zero d l = all 0
 bytes_from (byte ∷ text) all (suc k) d l = bytes_from text (λ i. all (suc i)) k d (omega (arith, l))
@@ -69,7 +74,8 @@ pub one_more : (text done rest after : List ℕ) (byte : ℕ) → length after <
     → Left text done rest → Left text (done ++ byte ∷ []) after
 one_more text done rest after byte short found left = by left.0 left.1 left.2 left.3
   where
-    by : (others : List ℕ) → AreBytes others → text ≡ done ++ others → quoted others ≡ rest → Left text (done ++ byte ∷ []) after
+    by : (others : List ℕ) → AreBytes others → text ≡ done ++ others → quoted others ≡ rest
+        → Left text (done ++ byte ∷ []) after
     by [] bytes same e = absurd (omega (arith, short, ap length e))
     by (b ∷ others) bytes same e =
         let next = found b (quoted others) (All-head (λ one. one < 256) b others bytes) (sym e) in (

@@ -1,5 +1,8 @@
 -- The places of a pattern in words.
-use Rattle.std.proofs.Common.{◌≡◌, ◌≢◌, ◌∙◌, ◌<◌, ◌≤◌, ◌+◌, ◌-◌, ◌*◌, ◌/◌, ◌%◌, ◌^◌, ℕ, zero, suc, Bool, true, false, ◌&&◌, ◌||◌, not, List, [], ◌∷◌, ◌++◌, length, map, cond, sym, ap, refl, arith, take, drop, get_or, set, max, min, inl, inr, bit_and, bit_or, replicate, get_or-set_same, get_or-set_other, subst}
+use Rattle.std.proofs.Common.{◌≡◌, ◌≢◌, ◌∙◌, ◌<◌, ◌≤◌, ◌+◌, ◌-◌, ◌*◌, ◌/◌, ◌%◌, ◌^◌, ℕ, zero, suc, Bool, true, false}
+use Rattle.std.proofs.Common.{◌&&◌, ◌||◌, not, List, [], ◌∷◌, ◌++◌, length, map, cond, sym, ap, refl, arith, take, drop}
+use Rattle.std.proofs.Common.{get_or, set, max, min, inl, inr, bit_and, bit_or, replicate, get_or-set_same}
+use Rattle.std.proofs.Common.{get_or-set_other, subst}
 use Rattle.std.specs.Prelude.{◌==◌}
 use Rattle.std.specs.Int.{bit_at}
 use Rattle.std.proofs.lemmas.Bool.{true≢false, false≢true, cases_eq, cases_lt}
@@ -27,10 +30,12 @@ and_bits zero (suc (suc y)) z l m e = absurd (omega arith)
 and_bits (suc zero) (suc (suc y)) z l m e = absurd (omega arith)
 
 pub is_set-or : (a b j : ℕ) → is_set (bit_or a b) j ≡ (is_set a j || is_set b j)
-is_set-or a b j = or_bits (bit_at a j) (bit_at b j) (bit_at (bit_or a b) j) (bit_at-lt a j) (bit_at-lt b j) (bit_at_or a b j)
+is_set-or a b j = or_bits (bit_at a j) (bit_at b j) (bit_at (bit_or a b) j) (bit_at-lt a j) (bit_at-lt b j)
+    (bit_at_or a b j)
 
 pub is_set-and : (a b j : ℕ) → is_set (bit_and a b) j ≡ (is_set a j && is_set b j)
-is_set-and a b j = and_bits (bit_at a j) (bit_at b j) (bit_at (bit_and a b) j) (bit_at-lt a j) (bit_at-lt b j) (bit_at_and a b j)
+is_set-and a b j = and_bits (bit_at a j) (bit_at b j) (bit_at (bit_and a b) j) (bit_at-lt a j) (bit_at-lt b j)
+    (bit_at_and a b j)
 
 pub is_set-zero : (j : ℕ) → is_set 0 j ≡ false
 is_set-zero j = ap (λ n. n == 1) (bit_at-zero j)
@@ -38,13 +43,16 @@ is_set-zero j = ap (λ n. n == 1) (bit_at-zero j)
 pub is_set-pow : (n j : ℕ) → is_set (2 ^ n) j ≡ is_at j n
 is_set-pow n j =
     elim (cases_eq j n) [
-      | inl same ↦ ap (λ k. is_set (2 ^ n) k) same ∙ (ap (λ x. x == 1) (bit_at-pow_same n) ∙ sym (ap (λ k. is_at k n) same ∙ is_at-same n))
+      | inl same ↦ ap (λ k. is_set (2 ^ n) k) same ∙ (ap (λ x. x == 1) (bit_at-pow_same n)
+          ∙ sym (ap (λ k. is_at k n) same ∙ is_at-same n))
       | inr other ↦ ap (λ x. x == 1) (bit_at-pow_other n j other) ∙ sym (is_at-other j n other)
     ]
 
 -- a word that is written
-pub has-set_same : (words : List ℕ) (i v k : ℕ) → i < length words → k / 64 ≡ i → has (set words i v) k ≡ is_set v (k % 64)
-has-set_same words i v k l e = ap (λ w. is_set w (k % 64)) (ap (λ n. get_or (set words i v) n 0) e ∙ get_or-set_same words i v 0 l)
+pub has-set_same : (words : List ℕ) (i v k : ℕ) → i < length words → k / 64 ≡ i
+    → has (set words i v) k ≡ is_set v (k % 64)
+has-set_same words i v k l e = ap (λ w. is_set w (k % 64)) (ap (λ n. get_or (set words i v) n 0) e
+    ∙ get_or-set_same words i v 0 l)
 
 pub has-set_other : (words : List ℕ) (i v k : ℕ) → k / 64 ≢ i → has (set words i v) k ≡ has words k
 has-set_other words i v k e = ap (λ w. is_set w (k % 64)) (get_or-set_other words i (k / 64) v 0 e)
@@ -53,7 +61,8 @@ has-set_other words i v k e = ap (λ w. is_set w (k % 64)) (get_or-set_other wor
 at_low : (k at : ℕ) → k / 64 ≡ at / 64 → is_at (k % 64) (at % 64) ≡ is_at k at
 at_low k at e =
     elim (cases_eq k at) [
-      | inl same ↦ ap (λ n. is_at (n % 64) (at % 64)) same ∙ (is_at-same (at % 64) ∙ sym (ap (λ n. is_at n at) same ∙ is_at-same at))
+      | inl same ↦ ap (λ n. is_at (n % 64) (at % 64)) same
+          ∙ (is_at-same (at % 64) ∙ sym (ap (λ n. is_at n at) same ∙ is_at-same at))
       | inr other ↦ is_at-other (k % 64) (at % 64) (λ low. other (omega arith)) ∙ sym (is_at-other k at other)
     ]
 
@@ -70,9 +79,13 @@ has-put words at v t l each k =
       | inl same ↦
           has-set_same words (at / 64) v k l same
           ∙ (each (k % 64)
-          ∙ (ap (λ b. is_set (get_or words (at / 64) 0) (k % 64) || (t && b)) (is_set-pow (at % 64) (k % 64) ∙ at_low k at same)
-          ∙ (ap (λ i. is_set (get_or words i 0) (k % 64) || (t && is_at k at)) (sym same) ∙ swap_last (has words k) t (is_at k at))))
-      | inr other ↦ has-set_other words (at / 64) v k other ∙ (none_more (has words k) t ∙ ap (λ b. has words k || (b && t)) (sym (is_at-other k at (λ e. other (ap (λ n. n / 64) e)))))
+          ∙ (ap (λ b. is_set (get_or words (at / 64) 0) (k % 64) || (t && b)) (is_set-pow (at % 64) (k % 64)
+          ∙ at_low k at same)
+          ∙ (ap (λ i. is_set (get_or words i 0) (k % 64) || (t && is_at k at)) (sym same) ∙ swap_last (has words k) t
+          (is_at k at))))
+      | inr other ↦ has-set_other words (at / 64) v k other
+          ∙ (none_more (has words k) t ∙ ap (λ b. has words k || (b && t))
+          (sym (is_at-other k at (λ e. other (ap (λ n. n / 64) e)))))
     ]
   where
     swap_last : (a b c : Bool) → (a || (b && c)) ≡ (a || (c && b))

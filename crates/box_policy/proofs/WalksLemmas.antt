@@ -1,5 +1,7 @@
 -- Walks from the first place to the last one.
-use Rattle.std.proofs.Common.{◌≡◌, ◌≢◌, ◌∙◌, ◌<◌, ◌≤◌, ◌+◌, ◌*◌, ◌/◌, ◌%◌, ◌^◌, ℕ, zero, suc, Bool, true, false, ◌&&◌, ◌||◌, List, [], ◌∷◌, ◌++◌, length, map, cond, sym, ap, refl, arith, take, get_or, set, inl, inr, bit_or, replicate, subst, append-nil, get_or-take}
+use Rattle.std.proofs.Common.{◌≡◌, ◌≢◌, ◌∙◌, ◌<◌, ◌≤◌, ◌+◌, ◌*◌, ◌/◌, ◌%◌, ◌^◌, ℕ, zero, suc, Bool, true, false, ◌&&◌}
+use Rattle.std.proofs.Common.{◌||◌, List, [], ◌∷◌, ◌++◌, length, map, cond, sym, ap, refl, arith, take, get_or, set}
+use Rattle.std.proofs.Common.{inl, inr, bit_or, replicate, subst, append-nil, get_or-take}
 use Rattle.std.proofs.lemmas.Bool.{cases_lt}
 use Rattle.std.proofs.lemmas.List.{take-map, get_or_past, length-map, length-take, take-replicate, length-replicate}
 use Rattle.box_policy.specs.declared.tokens.Sort.{Sort}
@@ -22,20 +24,31 @@ use Rattle.box_policy.proofs.FlatLemmas.{fits-lifted, fits-flat}
 use Rattle.box_policy.proofs.TablesLemmas.{walk_more}
 
 -- one component more
-pub walk_opened : (blocks : List Block) (symbols : List (Symbol Token)) (name : List ℕ) (rest : List Token) (old opened walked new : List ℕ)
-    → IsTable Component blocks symbols → ones symbols < 64 * length old → length opened ≡ length old → length walked ≡ length opened
-    → ((k : ℕ) → k < 64 * length old → has opened k ≡ stepped old (map (leads Open false) blocks) (map (loops false) blocks) k)
-    → reach (has walked) (row never symbols) (Close ∷ rest) ≡ reach (has opened) (row never symbols) (map Byte name ++ (Close ∷ rest))
-    → ((k : ℕ) → k < 64 * length walked → has new k ≡ stepped walked (map (leads Close false) blocks) (map (loops false) blocks) k)
-    → reach (has new) (row never symbols) rest ≡ reach (has old) (row never symbols) (Open ∷ (map Byte name ++ (Close ∷ rest)))
+pub walk_opened : (blocks : List Block) (symbols : List (Symbol Token)) (name : List ℕ) (rest : List Token)
+    (old opened walked new : List ℕ)
+    → IsTable Component blocks symbols → ones symbols < 64 * length old → length opened ≡ length old
+    → length walked ≡ length opened
+    → ((k : ℕ) → k < 64 * length old → has opened k ≡ stepped old (map (leads Open false) blocks)
+    (map (loops false) blocks) k)
+    → reach (has walked) (row never symbols) (Close ∷ rest) ≡ reach (has opened) (row never symbols)
+    (map Byte name ++ (Close ∷ rest))
+    → ((k : ℕ) → k < 64 * length walked → has new k ≡ stepped walked (map (leads Close false) blocks)
+    (map (loops false) blocks) k)
+    → reach (has new) (row never symbols) rest ≡ reach (has old) (row never symbols)
+    (Open ∷ (map Byte name ++ (Close ∷ rest)))
 walk_opened blocks symbols name rest old opened walked new table room lo lw opens inner closes =
     walk_more Component blocks symbols Close rest walked new table refl (omega arith) closes
-    ∙ (inner ∙ walk_more Component blocks symbols Open (map Byte name ++ (Close ∷ rest)) old opened table refl room opens)
+    ∙ (inner ∙ walk_more Component blocks symbols Open (map Byte name ++ (Close ∷ rest)) old opened table refl room
+    opens)
 
-pub walk_name_more : (symbols : List (Symbol Token)) (name : List ℕ) (names subject : List (List ℕ)) (old new : List ℕ) (whole : Bool) → subject ≡ name ∷ names
-    → reach (has new) (row never symbols) (stream names) ≡ reach (has old) (row never symbols) (Open ∷ (map Byte name ++ (Close ∷ stream names)))
-    → reach (has old) (row never symbols) (stream subject) ≡ whole → reach (has new) (row never symbols) (stream names) ≡ whole
-walk_name_more symbols name names subject old new whole front step before = step ∙ (ap (λ left. reach (has old) (row never symbols) (stream left)) (sym front) ∙ before)
+pub walk_name_more : (symbols : List (Symbol Token)) (name : List ℕ) (names subject : List (List ℕ)) (old new : List ℕ)
+    (whole : Bool) → subject ≡ name ∷ names
+    → reach (has new) (row never symbols) (stream names) ≡ reach (has old) (row never symbols)
+    (Open ∷ (map Byte name ++ (Close ∷ stream names)))
+    → reach (has old) (row never symbols) (stream subject) ≡ whole → reach (has new) (row never symbols) (stream names)
+    ≡ whole
+walk_name_more symbols name names subject old new whole front step before =
+    step ∙ (ap (λ left. reach (has old) (row never symbols) (stream left)) (sym front) ∙ before)
 
 abbrev zeros : ℕ → List ℕ
 zeros n = replicate n 0
@@ -46,7 +59,8 @@ zero_at (suc n) zero = refl
 zero_at (suc n) (suc i) = zero_at n i
 
 -- the first place and no other
-first_reached : (n : ℕ) → 0 < n → (has (set (replicate n 0) 0 1) 0 ≡ true) × ((k : ℕ) → has (set (replicate n 0) 0 1) (suc k) ≡ false)
+first_reached : (n : ℕ) → 0 < n → (has (set (replicate n 0) 0 1) 0 ≡ true)
+    × ((k : ℕ) → has (set (replicate n 0) 0 1) (suc k) ≡ false)
 first_reached zero h = absurd (omega arith)
 first_reached (suc n) h = (refl, λ k. of_word (suc k) (suc k / 64) (λ e. absurd (omega arith)) refl)
   where
@@ -59,9 +73,12 @@ zeros_taken used n h =
     let front : take used (zeros n) ≡ zeros used = take-replicate used n 0 h in
     front ∙ ap zeros (sym (ap length front ∙ length-replicate used 0))
 
-pub leads_last : (symbols : List (Symbol Token)) (last : ℕ) (old start new : List ℕ) (subject : List Token) (result : Bool)
-    → result ≡ has new last → ones symbols ≡ last → start ≡ set old 0 1 → old ≡ replicate (length old) 0 → 0 < length old
-    → reach (has new) (row never symbols) [] ≡ reach (has start) (row never symbols) subject → result ≡ row_fits (row never symbols) subject
+pub leads_last : (symbols : List (Symbol Token)) (last : ℕ) (old start new : List ℕ) (subject : List Token)
+    (result : Bool)
+    → result ≡ has new last → ones symbols ≡ last → start ≡ set old 0 1 → old ≡ replicate (length old) 0
+    → 0 < length old
+    → reach (has new) (row never symbols) [] ≡ reach (has start) (row never symbols) subject
+    → result ≡ row_fits (row never symbols) subject
 leads_last symbols last old start new subject result is_last count is_start blank some walk =
     let first = first_reached (length old) some in
     let started : start ≡ set (replicate (length old) 0) 0 1 = is_start ∙ ap (λ words. set words 0 1) blank in
@@ -72,8 +89,10 @@ leads_last symbols last old start new subject result is_last count is_start blan
     ∙ reach-start (row never symbols) (has (set (replicate (length old) 0) 0 1)) subject first.0 first.1)))
 
 pub leads_text : (symbols : List (Symbol Token)) (last : ℕ) (old start new : List ℕ) (text : List ℕ) (result : Bool)
-    → result ≡ has new last → ones symbols ≡ last → start ≡ set old 0 1 → old ≡ replicate (length old) 0 → 0 < length old
-    → reach (has new) (row never symbols) [] ≡ reach (has start) (row never symbols) (map Byte text ++ []) → result ≡ row_fits (row never symbols) (map Byte text)
+    → result ≡ has new last → ones symbols ≡ last → start ≡ set old 0 1 → old ≡ replicate (length old) 0
+    → 0 < length old
+    → reach (has new) (row never symbols) [] ≡ reach (has start) (row never symbols) (map Byte text ++ [])
+    → result ≡ row_fits (row never symbols) (map Byte text)
 leads_text symbols last old start new text result is_last count is_start blank some walk =
     leads_last symbols last old start new (map Byte text) result is_last count is_start blank some
     (walk ∙ ap (λ tokens. reach (has start) (row never symbols) tokens) (append-nil (map Byte text)))
@@ -90,18 +109,21 @@ past_test [] k token h = refl
 past_test (c ∷ cs) zero token h = absurd (omega arith)
 past_test (c ∷ cs) (suc k) token h = past_test cs k token (omega arith)
 
-has_taken : (f : Block → ℕ) (blocks : List Block) (n k : ℕ) (expected : Bool) → has (map f blocks) k ≡ expected → (n ≤ k / 64 → expected ≡ false) → has (map f (take n blocks)) k ≡ expected
+has_taken : (f : Block → ℕ) (blocks : List Block) (n k : ℕ) (expected : Bool) → has (map f blocks) k ≡ expected
+    → (n ≤ k / 64 → expected ≡ false) → has (map f (take n blocks)) k ≡ expected
 has_taken f blocks n k expected whole past =
     ap (λ words. has words k) (sym (take-map f n blocks))
     ∙ elim (cases_lt (k / 64) n) [
       | inl inside ↦ ap (λ w. is_set w (k % 64)) (get_or-take n (map f blocks) (k / 64) 0 inside) ∙ whole
       | inr from ↦
-          ap (λ w. is_set w (k % 64)) (get_or_past (take n (map f blocks)) (k / 64) 0 (omega (arith, length-take n (map f blocks), from)))
+          ap (λ w. is_set w (k % 64)) (get_or_past (take n (map f blocks)) (k / 64) 0
+          (omega (arith, length-take n (map f blocks), from)))
           ∙ (is_set-zero (k % 64) ∙ sym (past from))
     ]
 
 -- the blocks behind the last place are not wanted
-table_taken : (sort : Sort) (blocks : List Block) (symbols : List (Symbol Token)) (n : ℕ) → ones symbols < 64 * n → IsTable sort blocks symbols → IsTable sort (take n blocks) symbols
+table_taken : (sort : Sort) (blocks : List Block) (symbols : List (Symbol Token)) (n : ℕ) → ones symbols < 64 * n
+    → IsTable sort blocks symbols → IsTable sort (take n blocks) symbols
 table_taken sort blocks symbols n room table = record {
   leading = λ k token read.
       has_taken (leads token (on_bytes (class_of sort) token)) blocks n k _ (table.leading k token read)
@@ -145,13 +167,16 @@ table_blank sort n whole = record {
   split = refl;
   count = refl;
   table = record {
-    leading = λ k token read. has_blank (leads token (on_bytes (class_of sort) token)) n k (leads_none token (on_bytes (class_of sort) token)) ∙ sym (blank_at k token).0;
-    looping = λ k token read. has_blank (loops (on_bytes (class_of sort) token)) n k (loops_none (on_bytes (class_of sort) token)) ∙ sym (blank_at k token).1;
+    leading = λ k token read. has_blank (leads token (on_bytes (class_of sort) token)) n k
+        (leads_none token (on_bytes (class_of sort) token)) ∙ sym (blank_at k token).0;
+    looping = λ k token read. has_blank (loops (on_bytes (class_of sort) token)) n k
+        (loops_none (on_bytes (class_of sort) token)) ∙ sym (blank_at k token).1;
   };
 }
 
 -- the whole pattern is in the table
-whole_table : (sort : Sort) (blocks : List Block) (last : ℕ) (whole : List (Symbol Token)) → Holds sort blocks last [] whole → IsTable sort blocks whole × (ones whole ≡ last)
+whole_table : (sort : Sort) (blocks : List Block) (last : ℕ) (whole : List (Symbol Token))
+    → Holds sort blocks last [] whole → IsTable sort blocks whole × (ones whole ≡ last)
 whole_table sort blocks last whole h =
     let front : h.front ≡ whole = sym (append-nil h.front) ∙ h.split in (
       subst (λ ss. IsTable sort blocks ss) front h.table,
@@ -160,26 +185,33 @@ whole_table sort blocks last whole h =
 
 -- a text's pattern was put into a blank table, and its walk tells whether it fits
 pub text_found : (sort : Sort) (pattern text : List ℕ) (n used last : ℕ) (blocks : List Block) (result : Bool)
-    → ((rest whole : List (Symbol Token)) → Holds sort (replicate n empty) 0 (map lifted (symbols sort pattern) ++ rest) whole → Holds sort blocks last rest whole)
+    → ((rest whole : List (Symbol Token)) → Holds sort (replicate n empty) 0 (map lifted (symbols sort pattern) ++ rest)
+    whole → Holds sort blocks last rest whole)
     → last < 64 * used
-    → ((ss : List (Symbol Token)) → IsTable sort (take used blocks) ss → ones ss ≡ last → result ≡ row_fits (row never ss) (map Byte text))
+    → ((ss : List (Symbol Token)) → IsTable sort (take used blocks) ss → ones ss ≡ last
+    → result ≡ row_fits (row never ss) (map Byte text))
     → result ≡ fits (symbols sort pattern) text
 text_found sort pattern text n used last blocks result put room walk =
     let ss = map lifted (symbols sort pattern) in
-    let start : Holds sort (replicate n empty) 0 (ss ++ []) ss = subst (λ left. Holds sort (replicate n empty) 0 left ss) (sym (append-nil ss)) (table_blank sort n ss) in
+    let start : Holds sort (replicate n empty) 0 (ss ++ []) ss =
+    subst (λ left. Holds sort (replicate n empty) 0 left ss) (sym (append-nil ss)) (table_blank sort n ss) in
     let table = whole_table sort blocks last ss (put [] ss start) in
     walk ss (table_taken sort blocks ss used (omega (arith, room, table.1)) table.0) table.1
     ∙ (row-fits ss (nested-symbols sort pattern) (map Byte text) ∙ fits-lifted (symbols sort pattern) text)
 
 -- the same of a path's
 pub names_found : (pieces subject : List (List ℕ)) (n used last : ℕ) (blocks : List Block) (result : Bool)
-    → ((rest whole : List (Symbol Token)) → Holds Component (replicate n empty) 0 (flat pieces ++ rest) whole → Holds Component blocks last rest whole)
+    → ((rest whole : List (Symbol Token)) → Holds Component (replicate n empty) 0 (flat pieces ++ rest) whole
+    → Holds Component blocks last rest whole)
     → last < 64 * used
-    → ((ss : List (Symbol Token)) → IsTable Component (take used blocks) ss → ones ss ≡ last → result ≡ row_fits (row never ss) (stream subject))
+    → ((ss : List (Symbol Token)) → IsTable Component (take used blocks) ss → ones ss ≡ last
+    → result ≡ row_fits (row never ss) (stream subject))
     → result ≡ fits (map component_symbol pieces) subject
 names_found pieces subject n used last blocks result put room walk =
     let ss = flat pieces in
-    let start : Holds Component (replicate n empty) 0 (ss ++ []) ss = subst (λ left. Holds Component (replicate n empty) 0 left ss) (sym (append-nil ss)) (table_blank Component n ss) in
+    let start : Holds Component (replicate n empty) 0 (ss ++ []) ss =
+    subst (λ left. Holds Component (replicate n empty) 0 left ss) (sym (append-nil ss)) (table_blank Component n ss)
+    in
     let table = whole_table Component blocks last ss (put [] ss start) in
     walk ss (table_taken Component blocks ss used (omega (arith, room, table.1)) table.0) table.1
     ∙ (row-fits ss (nested-flat pieces) (stream subject) ∙ fits-flat pieces subject)

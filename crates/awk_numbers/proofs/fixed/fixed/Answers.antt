@@ -6,4 +6,5 @@ use Rattle.awk_numbers.proofs.fixed.fixed.Goals as goal
 
 pub returns-then-not-is_finite-clause-none : goal.returns-then-not-is_finite-clause-none
 returns-then-not-is_finite-clause-none c =
-    inr (infinite_large (double_of c.args.x) (ap float_is_finite (sym c.to_double-y.ensures) ∙ sym c.is_finite.ensures.value ∙ c.if-not-is_finite.true))
+    inr (infinite_large (double_of c.args.x) (ap float_is_finite (sym c.to_double-y.ensures)
+    ∙ sym c.is_finite.ensures.value ∙ c.if-not-is_finite.true))

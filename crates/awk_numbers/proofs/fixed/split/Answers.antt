@@ -6,10 +6,13 @@ pub float_to_bits-bits : goal.float_to_bits-bits
 float_to_bits-bits c = not_nan c.args.x c.requires
 
 pub returns-then-bits-lt-HIDDEN-clause-value : goal.returns-then-bits-lt-HIDDEN-clause-value
-returns-then-bits-lt-HIDDEN-clause-value c = low c.args.x (subst T (sym c.well_formed.0.1) tt) c.requires c.if-bits-lt-HIDDEN.true
+returns-then-bits-lt-HIDDEN-clause-value c = low c.args.x (subst T (sym c.well_formed.0.1) tt) c.requires
+    c.if-bits-lt-HIDDEN.true
 
 pub returns-else-bits-lt-HIDDEN-clause-value : goal.returns-else-bits-lt-HIDDEN-clause-value
-returns-else-bits-lt-HIDDEN-clause-value c = (high c.args.x (subst T (sym c.well_formed.0.1) tt) c.requires c.if-bits-lt-HIDDEN.false).1
+returns-else-bits-lt-HIDDEN-clause-value c =
+    (high c.args.x (subst T (sym c.well_formed.0.1) tt) c.requires c.if-bits-lt-HIDDEN.false).1
 
 pub returns-else-bits-lt-HIDDEN-clause-power : goal.returns-else-bits-lt-HIDDEN-clause-power
-returns-else-bits-lt-HIDDEN-clause-power c = omega (arith, (high c.args.x (subst T (sym c.well_formed.0.1) tt) c.requires c.if-bits-lt-HIDDEN.false).0)
+returns-else-bits-lt-HIDDEN-clause-power c =
+    omega (arith, (high c.args.x (subst T (sym c.well_formed.0.1) tt) c.requires c.if-bits-lt-HIDDEN.false).0)

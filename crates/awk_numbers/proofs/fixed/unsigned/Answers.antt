@@ -10,7 +10,8 @@ returns-clause-some c =
     let n = c.in-Some.number in
     let text : c.as_bytes-own.result.now ≡ decimal n = c.as_bytes-own.ensures.value ∙ c.format.ensures.text in
     let zeros : c.resize.new.self.items ≡ replicate (p + 1 - length (decimal n)) 48 =
-    c.in_ok-resize.ensures.items ∙ zeros_of c.new-all.result.items c.saturating_sub.result _ c.new-all.ensures.items c.new-all.ensures.len
+    c.in_ok-resize.ensures.items ∙ zeros_of c.new-all.result.items c.saturating_sub.result _ c.new-all.ensures.items
+    c.new-all.ensures.len
     ∙ (λ i. replicate ((c.saturating_sub.ensures ∙ ap (λ (t : List ℕ). p + 1 - length t) text) i) 48) in
     let all : c.deref.result.now ≡ replicate (p + 1 - length (decimal n)) 48 ++ decimal n =
     c.deref.ensures.value ∙ c.in_ok-extend_from_slice.ensures.items ∙ (λ i. zeros i ++ text i) in

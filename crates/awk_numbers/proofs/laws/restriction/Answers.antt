@@ -1,4 +1,5 @@
-use Rattle.std.proofs.Common.{◌≡◌, ◌<◌, ℤ, Bool, true, false, Ok, Err, is_ok, unsigned_abs, int_rem, int_div, ap, sym, subst, ◌∙◌, true≢false}
+use Rattle.std.proofs.Common.{◌≡◌, ◌<◌, ℤ, Bool, true, false, Ok, Err, is_ok, unsigned_abs, int_rem, int_div, ap, sym}
+use Rattle.std.proofs.Common.{subst, ◌∙◌, true≢false}
 use Rattle.std.specs.Bool.{if◌then◌else◌}
 use lib.Ieee.{of_int, binary64, div, rem}
 use Rattle.awk_numbers.specs.declared.number.Number.TheVariants.{Whole}
@@ -6,7 +7,8 @@ use Rattle.awk_numbers.specs.declared.number.NumberFault.TheVariants.{ZeroDiviso
 use Rattle.awk_numbers.specs.Laws.{IsExact}
 use Rattle.awk_numbers.specs.Numbers.{settled}
 use Rattle.awk_numbers.specs.Operators.{is_int_zero, ranged}
-use Rattle.awk_numbers.proofs.Exact.{add_exact, sub_exact, mul_exact, div_exact, rem_exact, neg_exact, ranged_is, same_whole, not_zero}
+use Rattle.awk_numbers.proofs.Exact.{add_exact, sub_exact, mul_exact, div_exact, rem_exact, neg_exact, ranged_is}
+use Rattle.awk_numbers.proofs.Exact.{same_whole, not_zero}
 use Rattle.awk_numbers.proofs.laws.restriction.Goals as goal
 
 abbrev small : ℤ → Type 0
@@ -30,15 +32,18 @@ returns-clause-product c m n z p q r e =
 pub returns-clause-quotient : goal.returns-clause-quotient
 returns-clause-quotient c m n z p q r s = go (is_int_zero n) (not_zero n)
   where
-    go : (b : Bool) → (b ≡ false → 0 < unsigned_abs n) → (if b then Err ZeroDivisor else ranged (int_div m n)) ≡ Ok (Whole z)
+    go : (b : Bool) → (b ≡ false → 0 < unsigned_abs n) → (if b then Err ZeroDivisor else ranged (int_div m n))
+        ≡ Ok (Whole z)
         → (if b then Err ZeroDivisor else settled (div binary64 (of_int binary64 m) (of_int binary64 n))) ≡ Ok (Whole z)
     go true f e = absurd (true≢false (sym (ap is_ok e)))
-    go false f e = div_exact m n p q (f Rattle.std.proofs.Common.refl) s ∙ ap (λ (k : ℤ). Ok (Whole k)) (ranged_is _ z e)
+    go false f e = div_exact m n p q (f Rattle.std.proofs.Common.refl) s ∙ ap (λ (k : ℤ). Ok (Whole k))
+        (ranged_is _ z e)
 
 pub returns-clause-remainder : goal.returns-clause-remainder
 returns-clause-remainder c m n z p q r = go (is_int_zero n) (not_zero n)
   where
-    go : (b : Bool) → (b ≡ false → 0 < unsigned_abs n) → (if b then Err ZeroDivisor else Ok (Whole (int_rem m n))) ≡ Ok (Whole z)
+    go : (b : Bool) → (b ≡ false → 0 < unsigned_abs n) → (if b then Err ZeroDivisor else Ok (Whole (int_rem m n)))
+        ≡ Ok (Whole z)
         → (if b then Err ZeroDivisor else settled (rem binary64 (of_int binary64 m) (of_int binary64 n))) ≡ Ok (Whole z)
     go true f e = absurd (true≢false (sym (ap is_ok e)))
     go false f e = rem_exact m n p q (f Rattle.std.proofs.Common.refl) ∙ ap (λ (k : ℤ). Ok (Whole k)) (same_whole _ z e)

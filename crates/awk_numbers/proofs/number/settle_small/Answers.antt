@@ -13,14 +13,18 @@ truncating_f64_to_i64-n-requires-clause-upper_bound c = below_past c.args.x c.re
 pub int_to_float-n : goal.int_to_float-n
 int_to_float-n c =
     let f : SFits w64 c.truncating_f64_to_i64-n.result = record { sfits = c.truncating_f64_to_i64-n.type_inv } in
-    cut_fits c.args.x _ c.requires (to_z-of_z w64 c.truncating_f64_to_i64-n.result f ∙ c.truncating_f64_to_i64-n.ensures)
+    cut_fits c.args.x _ c.requires (to_z-of_z w64 c.truncating_f64_to_i64-n.result f
+    ∙ c.truncating_f64_to_i64-n.ensures)
 
 pub returns-then-n-x : goal.returns-then-n-x
 returns-then-n-x c =
     let f : SFits w64 c.truncating_f64_to_i64-n.result = record { sfits = c.truncating_f64_to_i64-n.type_inv } in
-    settles_whole c.args.x _ c.requires (to_z-of_z w64 c.truncating_f64_to_i64-n.result f ∙ c.truncating_f64_to_i64-n.ensures) (T_from_true _ c.if-n-x.true)
+    settles_whole c.args.x _ c.requires (to_z-of_z w64 c.truncating_f64_to_i64-n.result f
+    ∙ c.truncating_f64_to_i64-n.ensures) (T_from_true _ c.if-n-x.true)
 
 pub returns-else-n-x : goal.returns-else-n-x
 returns-else-n-x c =
     let f : SFits w64 c.truncating_f64_to_i64-n.result = record { sfits = c.truncating_f64_to_i64-n.type_inv } in
-    settles_real c.args.x (to_z w64 (of_z w64 c.truncating_f64_to_i64-n.result)) c.requires (to_z-of_z w64 c.truncating_f64_to_i64-n.result f ∙ c.truncating_f64_to_i64-n.ensures) (T_from_false _ c.if-n-x.false)
+    settles_real c.args.x (to_z w64 (of_z w64 c.truncating_f64_to_i64-n.result)) c.requires
+    (to_z-of_z w64 c.truncating_f64_to_i64-n.result f ∙ c.truncating_f64_to_i64-n.ensures)
+    (T_from_false _ c.if-n-x.false)

@@ -5,4 +5,5 @@ use Rattle.awk_sources.proofs.joining.copied.Given as goal
 
 -- the first text, and those of the others that were met
 abbrev pub invariant-loop-other : goal.invariant-loop-other
-invariant-loop-other l = l.whole.items ≡ l.initial.whole.items ++ flat_map (λ text. 10 ∷ text) (texts_of (take l.other-index l.others))
+invariant-loop-other l = l.whole.items ≡ l.initial.whole.items ++ flat_map (λ text. 10 ∷ text)
+    (texts_of (take l.other-index l.others))

@@ -13,7 +13,8 @@ returns-in-Err-clause-refused c =
     let at = c.loop-source in
     let e = c.in-Err.field-0 in
     λ other.
-    refused_in c.args.sources.now at.source-index c.source-item.result at.lines c.saturating_add-line.result e.code e.place (omega arith) c.source-item.is at.invariant.0 at.invariant.1 c.saturating_add-line.ensures
+    refused_in c.args.sources.now at.source-index c.source-item.result at.lines c.saturating_add-line.result e.code
+    e.place (omega arith) c.source-item.is at.invariant.0 at.invariant.1 c.saturating_add-line.ensures
     (subst (λ z. Refuses z e.code e.place) c.as_slice-text.ensures.value (c.in-Err.ensures.refused other))
 
 pub loop-source-preserved : goal.loop-source-preserved
@@ -22,8 +23,12 @@ loop-source-preserved c =
     let at = c.loop-source in
     let s = c.source-item.result in
     let text = c.as_slice-text.ensures.value in (
-      lines_more sources at.source-index s at.lines c.with_lines-lines.result (omega arith) c.source-item.is at.invariant.0 (c.with_lines-lines.ensures ∙ ap (λ z. capped (at.lines + lines_of z)) text),
-      all_more sources at.source-index s (omega arith) c.source-item.is at.invariant.1 (c.in_default.field-0.items, subst (λ z. Reads z c.in_default.field-0.items) text c.in_default.ensures.read),
+      lines_more sources at.source-index s at.lines c.with_lines-lines.result (omega arith) c.source-item.is
+          at.invariant.0 (c.with_lines-lines.ensures ∙ ap (λ z. capped (at.lines + lines_of z)) text),
+      all_more sources at.source-index s (omega arith) c.source-item.is at.invariant.1 (
+        c.in_default.field-0.items,
+        subst (λ z. Reads z c.in_default.field-0.items) text c.in_default.ensures.read,
+      ),
     )
 
 pub returns-clause-read : goal.returns-clause-read

@@ -13,7 +13,8 @@ returns-then-line-part-clause-told c =
     let p = c.part-item.result in
     record {
       entry = entry p;
-      line = is_line c.args.parts.now at.part-index c.args.place.line at.line p (omega arith) c.part-item.is at.invariant.0 at.invariant.1 c.if-line-part.true;
+      line = is_line c.args.parts.now at.part-index c.args.place.line at.line p (omega arith) c.part-item.is
+          at.invariant.0 at.invariant.1 c.if-line-part.true;
       name = c.as_str.ensures.value;
       column = refl;
     }
@@ -31,4 +32,5 @@ pub returns-clause-none : goal.returns-clause-none
 returns-clause-none c =
     let at = c.loop-part in
     let all = take_all at.part-index c.args.parts.now (omega arith) in
-    λ none. past_all (entries c.args.parts.now) c.args.place.line at.line (at.invariant.0 ∙ ap (λ ps. total (entries ps) + at.line) all) at.invariant.1
+    λ none. past_all (entries c.args.parts.now) c.args.place.line at.line
+    (at.invariant.0 ∙ ap (λ ps. total (entries ps) + at.line) all) at.invariant.1

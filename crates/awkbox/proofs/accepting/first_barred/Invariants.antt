@@ -6,5 +6,6 @@ use Rattle.awkbox.proofs.accepting.first_barred.Given as goal
 abbrev pub invariant-loop-name : goal.invariant-loop-name
 invariant-loop-name l = record {
   counted : l.number ≡ l.name-index;
-  rest : first_barred l.script.kinds (l.number + 1) (drop l.name-index l.assigns) ≡ first_barred l.script.kinds 1 l.assigns;
+  rest : first_barred l.script.kinds (l.number + 1) (drop l.name-index l.assigns) ≡ first_barred l.script.kinds 1
+      l.assigns;
 }

@@ -7,5 +7,6 @@ returns-clause-driven g c =
       book = c.in-Ok.prepared.policy;
       spelled = c.in-Ok.prepared.script;
       accepted = c.in-Ok.ensures.ok;
-      drives = rw (written_fresh c.args.policy.now c.in-Ok.prepared.policy c.in-Ok.ensures.ok.written) at c.drive-world.ensures.drives;
+      drives = rw (written_fresh c.args.policy.now c.in-Ok.prepared.policy c.in-Ok.ensures.ok.written) at
+          c.drive-world.ensures.drives;
     }

@@ -18,7 +18,8 @@ pub returns-in-Some-clause-found : goal.returns-in-Some-clause-found
 returns-in-Some-clause-found c text bytes e =
     let same : c.in-Some.text ≡ text =
     subst (λ found. MatchOption found ⊥ (λ one. one ≡ text)) c.in-Some.is (c.in_ok-found.ensures.found text bytes e) in
-    subst (λ one. c.wish_with.result ≡ wish_of c.args.number c.args.told.place (subject_at c.args.told.kind one)) same c.wish_with.ensures
+    subst (λ one. c.wish_with.result ≡ wish_of c.args.number c.args.told.place (subject_at c.args.told.kind one)) same
+    c.wish_with.ensures
 
 pub returns-in-None-clause-found : goal.returns-in-None-clause-found
 returns-in-None-clause-found c text bytes e =

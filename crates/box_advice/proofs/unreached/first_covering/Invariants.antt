@@ -8,6 +8,7 @@ use Rattle.box_advice.proofs.unreached.first_covering.Given as goal
 abbrev pub invariant-loop-rule : goal.invariant-loop-rule
 invariant-loop-rule l = record {
   count : l.number ≡ l.rule-index;
-  rest : first_of (λ rule. covers l.policy.base rule l.later) (l.number + 1) (drop l.rule-index (take (length l.heads) l.policy.rules))
+  rest : first_of (λ rule. covers l.policy.base rule l.later) (l.number + 1)
+      (drop l.rule-index (take (length l.heads) l.policy.rules))
       ≡ first_covering l.policy.base (take (length l.heads) l.policy.rules) l.later;
 }

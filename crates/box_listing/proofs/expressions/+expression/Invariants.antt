@@ -56,17 +56,22 @@ abbrev pub decreases-pipes : goal.decreases-pipes
 decreases-pipes l = 6 + 16 * l.level
 
 abbrev pub invariant-each-loop-x : goal.invariant-each-loop-x
-invariant-each-loop-x l = (t : Names) → l.initial.out.items ++ spec.each (expressions_of (map (view t) l.xs)) ≡ l.out.items ++ spec.each (expressions_of (map (view t) (drop l.x-index l.xs)))
+invariant-each-loop-x l = (t : Names) → l.initial.out.items ++ spec.each (expressions_of (map (view t) l.xs))
+    ≡ l.out.items ++ spec.each (expressions_of (map (view t) (drop l.x-index l.xs)))
 
 abbrev pub invariant-terms-loop-x : goal.invariant-terms-loop-x
-invariant-terms-loop-x l = (t : Names) → l.initial.out.items ++ spec.terms (terms_of (map (view_term t) l.xs)) ≡ l.out.items ++ spec.terms (terms_of (map (view_term t) (drop l.x-index l.xs)))
+invariant-terms-loop-x l = (t : Names) → l.initial.out.items ++ spec.terms (terms_of (map (view_term t) l.xs))
+    ≡ l.out.items ++ spec.terms (terms_of (map (view_term t) (drop l.x-index l.xs)))
 
 abbrev pub invariant-joins-loop-x : goal.invariant-joins-loop-x
-invariant-joins-loop-x l = (t : Names) → l.initial.out.items ++ spec.joins (joins_of (map (view_joined t) l.xs)) ≡ l.out.items ++ spec.joins (joins_of (map (view_joined t) (drop l.x-index l.xs)))
+invariant-joins-loop-x l = (t : Names) → l.initial.out.items ++ spec.joins (joins_of (map (view_joined t) l.xs))
+    ≡ l.out.items ++ spec.joins (joins_of (map (view_joined t) (drop l.x-index l.xs)))
 
 abbrev pub invariant-arguments-loop-x : goal.invariant-arguments-loop-x
-invariant-arguments-loop-x l = (t : Names) → l.initial.out.items ++ spec.arguments (view_arguments t l.xs) ≡ l.out.items ++ spec.arguments (view_arguments t (drop l.x-index l.xs))
+invariant-arguments-loop-x l = (t : Names) → l.initial.out.items ++ spec.arguments (view_arguments t l.xs) ≡ l.out.items
+    ++ spec.arguments (view_arguments t (drop l.x-index l.xs))
 
 abbrev pub invariant-pipes-loop-x : goal.invariant-pipes-loop-x
 invariant-pipes-loop-x l = (t : Names) →
-    l.initial.out.items ++ spec.pipes (option_copied l.initial.known) (view_pipes t l.xs) ≡ l.out.items ++ spec.pipes (option_copied l.known) (view_pipes t (drop l.x-index l.xs))
+    l.initial.out.items ++ spec.pipes (option_copied l.initial.known) (view_pipes t l.xs) ≡ l.out.items
+    ++ spec.pipes (option_copied l.known) (view_pipes t (drop l.x-index l.xs))

@@ -15,7 +15,12 @@ none_asked q b.System xs h = absurd (h refl)
 none_asked q which xs h = refl
 
 pub returns-in-System : goal.returns-in-System
-returns-in-System c = rw c.in-System.is (told _ _ _ _ (λ n. spec.site c.args.place kind.Run (spec.first_constant (expressions_of (map (view n) c.args.xs.now)))) c.site.ensures (λ n. ap (spec.site c.args.place kind.Run) (c.first_constant.ensures n)))
+returns-in-System c =
+    rw c.in-System.is (told _ _ _ _ (λ n. spec.site c.args.place kind.Run
+    (spec.first_constant (expressions_of (map (view n) c.args.xs.now)))) c.site.ensures
+    (λ n. ap (spec.site c.args.place kind.Run) (c.first_constant.ensures n)))
 
 pub returns-in_default : goal.returns-in_default
-returns-in_default c = nothing _ (λ n. spec.asked c.args.place c.args.which (expressions_of (map (view n) c.args.xs.now))) (λ n. none_asked c.args.place c.args.which (expressions_of (map (view n) c.args.xs.now)) c.in_default.not-System)
+returns-in_default c =
+    nothing _ (λ n. spec.asked c.args.place c.args.which (expressions_of (map (view n) c.args.xs.now)))
+    (λ n. none_asked c.args.place c.args.which (expressions_of (map (view n) c.args.xs.now)) c.in_default.not-System)

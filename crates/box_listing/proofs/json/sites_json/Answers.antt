@@ -5,8 +5,10 @@ use Rattle.box_listing.proofs.json.sites_json.Goals as goal
 
 pub loop-site-preserved : goal.loop-site-preserved
 loop-site-preserved c =
-    next_line site_line [] c.loop-site.lines.items _ c.args.sites.now c.loop-site.site-index c.site-item.result (omega arith) c.site-item.is
-    (c.in_ok-extend_from_slice.ensures.items ∙ ap (λ z. c.loop-site.lines.items ++ z) (c.as_bytes.ensures.value ∙ c.as_str.ensures.value ∙ c.in_ok-line.ensures)) c.loop-site.invariant
+    next_line site_line [] c.loop-site.lines.items _ c.args.sites.now c.loop-site.site-index c.site-item.result
+    (omega arith) c.site-item.is
+    (c.in_ok-extend_from_slice.ensures.items ∙ ap (λ z. c.loop-site.lines.items ++ z) (c.as_bytes.ensures.value
+    ∙ c.as_str.ensures.value ∙ c.in_ok-line.ensures)) c.loop-site.invariant
 
 pub returns : goal.returns
 returns c = all_lines site_line [] _ c.args.sites.now c.loop-site.site-index (omega arith) c.loop-site.invariant

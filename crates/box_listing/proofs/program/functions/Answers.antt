@@ -8,7 +8,10 @@ pub loop-x-init : goal.loop-x-init
 loop-x-init c = λ n. refl
 
 pub loop-x-preserved : goal.loop-x-preserved
-loop-x-preserved c = turn (λ n xs. spec.functions (map (view_function n) xs)) _ _ _ _ c.args.xs.now c.loop-x.x-index c.x-item.result (omega arith) c.x-item.is (λ n ys. rw c.as_slice.ensures refl) c.in_ok-actions.ensures c.loop-x.invariant
+loop-x-preserved c = turn (λ n xs. spec.functions (map (view_function n) xs)) _ _ _ _ c.args.xs.now c.loop-x.x-index
+    c.x-item.result (omega arith) c.x-item.is (λ n ys. rw c.as_slice.ensures refl) c.in_ok-actions.ensures
+    c.loop-x.invariant
 
 pub returns : goal.returns
-returns c = all_found (λ n xs. spec.functions (map (view_function n) xs)) _ _ c.args.xs.now c.loop-x.x-index (omega arith) (λ n. refl) c.loop-x.invariant
+returns c = all_found (λ n xs. spec.functions (map (view_function n) xs)) _ _ c.args.xs.now c.loop-x.x-index
+    (omega arith) (λ n. refl) c.loop-x.invariant

@@ -4,4 +4,5 @@ use Rattle.box_listing.specs.Sites as spec
 use Rattle.box_listing.proofs.program.functions.Given as goal
 
 abbrev pub invariant-loop-x : goal.invariant-loop-x
-invariant-loop-x l = (t : Names) → l.initial.out.items ++ spec.functions (map (view_function t) l.xs) ≡ l.out.items ++ spec.functions (map (view_function t) (drop l.x-index l.xs))
+invariant-loop-x l = (t : Names) → l.initial.out.items ++ spec.functions (map (view_function t) l.xs) ≡ l.out.items
+    ++ spec.functions (map (view_function t) (drop l.x-index l.xs))

@@ -5,4 +5,5 @@ use Rattle.box_listing.proofs.Finding.{then}
 use Rattle.box_listing.proofs.program.rule.Goals as goal
 
 pub returns : goal.returns
-returns c = then _ _ _ _ _ _ (λ n. spec.rule (view_rule n c.args.x.now)) c.in_ok-when.ensures c.actions.ensures (λ n. rw c.as_slice.ensures refl)
+returns c = then _ _ _ _ _ _ (λ n. spec.rule (view_rule n c.args.x.now)) c.in_ok-when.ensures c.actions.ensures
+    (λ n. rw c.as_slice.ensures refl)

@@ -4,4 +4,5 @@ use Rattle.box_listing.specs.Sites as spec
 use Rattle.box_listing.proofs.program.rules.Given as goal
 
 abbrev pub invariant-loop-x : goal.invariant-loop-x
-invariant-loop-x l = (t : Names) → l.initial.out.items ++ spec.rules (map (view_rule t) l.xs) ≡ l.out.items ++ spec.rules (map (view_rule t) (drop l.x-index l.xs))
+invariant-loop-x l = (t : Names) → l.initial.out.items ++ spec.rules (map (view_rule t) l.xs) ≡ l.out.items
+    ++ spec.rules (map (view_rule t) (drop l.x-index l.xs))

@@ -16,5 +16,8 @@ returns c =
     (λ a. IsListing (view_program c.program.result.now) c.as_slice.result.now c.names_environ.result a.items)
     (λ a. (items : List Entry) → IsScriptOf items c.args.script.now → IsListingOf c.args.script.now items a.items)
     (λ a h items is.
-    moved (λ p o n. IsListing (view_program p) o n a.items) c.program.result.now c.args.script.now.program c.as_slice.result.now (map sort_of (tree c.args.script.now)) c.names_environ.result (names_environ (map part items))
-    c.program.ensures (c.as_slice.ensures.value ∙ c.in_ok-order.ensures ∙ ap (λ xs. map sort_of (map view_item xs)) c.items.ensures) (c.names_environ.ensures items is) h) c.listed.ensures
+    moved (λ p o n. IsListing (view_program p) o n a.items) c.program.result.now c.args.script.now.program
+    c.as_slice.result.now (map sort_of (tree c.args.script.now)) c.names_environ.result
+    (names_environ (map part items))
+    c.program.ensures (c.as_slice.ensures.value ∙ c.in_ok-order.ensures ∙ ap (λ xs. map sort_of (map view_item xs))
+    c.items.ensures) (c.names_environ.ensures items is) h) c.listed.ensures

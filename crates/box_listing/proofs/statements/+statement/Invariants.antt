@@ -14,4 +14,6 @@ abbrev pub decreases-statements : goal.decreases-statements
 decreases-statements l = 1 + 16 * l.level
 
 abbrev pub invariant-statements-loop-x : goal.invariant-statements-loop-x
-invariant-statements-loop-x l = (t : Names) → l.initial.out.items ++ spec.each_done (statements_of (map (view_statement t) l.xs)) ≡ l.out.items ++ spec.each_done (statements_of (map (view_statement t) (drop l.x-index l.xs)))
+invariant-statements-loop-x l = (t : Names)
+    → l.initial.out.items ++ spec.each_done (statements_of (map (view_statement t) l.xs)) ≡ l.out.items
+    ++ spec.each_done (statements_of (map (view_statement t) (drop l.x-index l.xs)))

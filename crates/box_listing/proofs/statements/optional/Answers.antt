@@ -8,4 +8,5 @@ pub returns-in-None : goal.returns-in-None
 returns-in-None c = λ n. rw (c.in-None.is, append-nil) refl
 
 pub returns-in-Some : goal.returns-in-Some
-returns-in-Some c = same _ _ _ _ (λ n. spec.optional (option_map (view n) c.args.x.now)) c.value.ensures (λ n. rw (c.in-Some.is) refl)
+returns-in-Some c = same _ _ _ _ (λ n. spec.optional (option_map (view n) c.args.x.now)) c.value.ensures
+    (λ n. rw (c.in-Some.is) refl)

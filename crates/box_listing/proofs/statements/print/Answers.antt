@@ -5,4 +5,5 @@ use Rattle.box_listing.proofs.Finding.{then}
 use Rattle.box_listing.proofs.statements.print.Goals as goal
 
 pub returns : goal.returns
-returns c = then _ _ _ _ _ _ (λ n. spec.all (map (view n) c.args.xs.now) ++ spec.redirection (option_map (view_redirection n) c.args.r.now)) c.in_ok-values.ensures c.target.ensures (λ n. refl)
+returns c = then _ _ _ _ _ _ (λ n. spec.all (map (view n) c.args.xs.now) ++ spec.redirection
+    (option_map (view_redirection n) c.args.r.now)) c.in_ok-values.ensures c.target.ensures (λ n. refl)

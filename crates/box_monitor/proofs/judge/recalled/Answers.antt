@@ -6,10 +6,12 @@ use Rattle.box_monitor.proofs.judge.recalled.Goals as goal
 
 pub returns-clause-found : goal.returns-clause-found
 returns-clause-found c = λ book all.
-    if_found book c.args.question.kind c.args.question.given c.args.question.text.now c.args.cache.now.entries c.copied.result all (c.copied.ensures ∙ c.get.ensures.value)
+    if_found book c.args.question.kind c.args.question.given c.args.question.text.now c.args.cache.now.entries
+    c.copied.result all (c.copied.ensures ∙ c.get.ensures.value)
 
 pub returns-clause-kept : goal.returns-clause-kept
 returns-clause-kept c = λ book all.
     let q = c.args.question in
     subst (λ x. AreDecided book x.entries) (sym c.get.follows.holds-at-none)
-    (after_use book (λ k. bytes_eq (spelled q.kind q.given q.text.now) (spelled k.kind k.given k.text.items)) c.args.cache.now.entries all)
+    (after_use book (λ k. bytes_eq (spelled q.kind q.given q.text.now) (spelled k.kind k.given k.text.items))
+    c.args.cache.now.entries all)

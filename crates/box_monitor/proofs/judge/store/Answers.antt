@@ -11,4 +11,5 @@ pub returns : goal.returns
 returns c = λ book all is.
     let kept = c.in_ok-kept.ensures in
     subst (λ x. AreDecided book x.entries) (sym c.in_ok-put.ensures.entries)
-    (after_put book c.args.cache.now c.in_ok-kept.kept c.args.made all (is ∙ (λ i. decision book (sym kept.kind i) (sym kept.text i) (sym kept.given i))))
+    (after_put book c.args.cache.now c.in_ok-kept.kept c.args.made all
+    (is ∙ (λ i. decision book (sym kept.kind i) (sym kept.text i) (sym kept.given i))))

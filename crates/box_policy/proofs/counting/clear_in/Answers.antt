@@ -1,4 +1,5 @@
-use Rattle.std.proofs.Common.{◌≡◌, ◌∙◌, ℕ, zero, suc, ◌+◌, ◌<◌, List, [], ◌∷◌, ◌++◌, length, drop, map, take, set, get_or, sym, ap, arith}
+use Rattle.std.proofs.Common.{◌≡◌, ◌∙◌, ℕ, zero, suc, ◌+◌, ◌<◌, List, [], ◌∷◌, ◌++◌, length, drop, map, take, set}
+use Rattle.std.proofs.Common.{get_or, sym, ap, arith}
 use Rattle.box_policy.specs.declared.policy.Rule.{Rule}
 use Rattle.box_policy.specs.Counts.{rule_cleared}
 use Rattle.box_policy.proofs.counting.clear_in.Goals as goal
@@ -18,6 +19,11 @@ next_cleared (x ∷ xs) (suc k) d h =
 pub loop-rule-preserved : goal.loop-rule-preserved
 loop-rule-preserved c =
     let k = c.loop-rule.rule-index in
-    let below : k < length c.args.rules.now.items = omega (arith, c.loop-rule-test.true, ap length c.deref_mut-rule-items.ensures.value) in
+    let below : k < length c.args.rules.now.items = omega (
+      arith,
+      c.loop-rule-test.true,
+      ap length c.deref_mut-rule-items.ensures.value,
+    ) in
     ap (set c.loop-rule.rule-items k) c.clear.ensures
-    ∙ (ap (λ ys. set ys k (rule_cleared (get_or ys k c.rule-item.result))) c.loop-rule.invariant ∙ next_cleared c.args.rules.now.items k c.rule-item.result below)
+    ∙ (ap (λ ys. set ys k (rule_cleared (get_or ys k c.rule-item.result))) c.loop-rule.invariant
+    ∙ next_cleared c.args.rules.now.items k c.rule-item.result below)

@@ -10,7 +10,8 @@ abbrev pub invariant-loop-number : goal.invariant-loop-number
 invariant-loop-number l = record {
   ahead : IsAhead l.target l.rules l.ahead l.passed;
   rest : (base : List ℕ) (kind : Kind) (subject : List ℕ) → IsTarget base kind subject l.target
-      → decision_from (sees l.sight) (l.passed + 1) base (drop l.passed l.rules) kind subject l.given ≡ decision_from (sees l.sight) 1 base l.rules kind subject l.given;
+      → decision_from (sees l.sight) (l.passed + 1) base (drop l.passed l.rules) kind subject l.given ≡ decision_from
+      (sees l.sight) 1 base l.rules kind subject l.given;
 }
 
 abbrev pub decreases-loop-number : goal.decreases-loop-number

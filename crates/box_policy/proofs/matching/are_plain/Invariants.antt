@@ -6,7 +6,8 @@ use Rattle.box_policy.specs.Plain.{is_plain_pattern}
 use Rattle.box_policy.proofs.matching.are_plain.Given as goal
 
 abbrev pub invariant-loop-piece : goal.invariant-loop-piece
-invariant-loop-piece l = list_all (is_plain_pattern Component) (names l.rest) ≡ list_all (is_plain_pattern Component) (names l.pattern)
+invariant-loop-piece l = list_all (is_plain_pattern Component) (names l.rest) ≡ list_all (is_plain_pattern Component)
+    (names l.pattern)
 
 abbrev pub decreases-loop-piece : goal.decreases-loop-piece
 decreases-loop-piece l = length l.rest

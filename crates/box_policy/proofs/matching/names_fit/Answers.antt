@@ -9,5 +9,6 @@ use Rattle.box_policy.proofs.matching.names_fit.Goals as goal
 
 pub returns-clause-division : goal.returns-clause-division
 returns-clause-division c =
-    Decides-at c.found_names.result (fits (map component_symbol (names c.args.pattern.now)) (names_left c.args.subject)) c.found_names.ensures
+    Decides-at c.found_names.result (fits (map component_symbol (names c.args.pattern.now)) (names_left c.args.subject))
+    c.found_names.ensures
     (fits-Decides (map component_symbol (names c.args.pattern.now)) (names_left c.args.subject))

@@ -12,7 +12,8 @@ abbrev pub invariant-loop-piece : goal.invariant-loop-piece
 invariant-loop-piece l = record {
   len : length l.blocks ≡ length l.initial.blocks;
   room : l.at + width (names l.left) ≤ width (names l.pattern);
-  whole : (rest whole : List (Symbol Token)) → Holds Component l.initial.blocks 0 (flat (names l.pattern) ++ rest) whole → Holds Component l.blocks l.at (flat (names l.left) ++ rest) whole;
+  whole : (rest whole : List (Symbol Token)) → Holds Component l.initial.blocks 0 (flat (names l.pattern) ++ rest) whole
+      → Holds Component l.blocks l.at (flat (names l.left) ++ rest) whole;
 }
 
 abbrev pub decreases-loop-piece : goal.decreases-loop-piece

@@ -11,5 +11,7 @@ returns-clause-holds c = λ rest whole h.
     let named : bytes_eq c.args.piece.now (codes "**") ≡ false = search rules in
     c.put-2.ensures.holds Component rest whole
     (c.put_text-end.ensures.holds (one is_close ∷ rest) whole
-    (c.put-inner.ensures.holds Component (map lifted (symbols Component c.args.piece.now) ++ (one is_close ∷ rest)) whole
-    (subst (λ left. Holds Component c.args.blocks.now c.args.at left whole) (piece_parts c.args.piece.now rest named) h)))
+    (c.put-inner.ensures.holds Component (map lifted (symbols Component c.args.piece.now) ++ (one is_close ∷ rest))
+    whole
+    (subst (λ left. Holds Component c.args.blocks.now c.args.at left whole) (piece_parts c.args.piece.now rest named)
+    h)))

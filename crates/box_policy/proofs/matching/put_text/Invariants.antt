@@ -11,7 +11,9 @@ abbrev pub invariant-loop-element : goal.invariant-loop-element
 invariant-loop-element l = record {
   len : length l.blocks ≡ length l.initial.blocks;
   room : l.at + length l.left ≤ l.fn.at + length l.pattern;
-  whole : (rest whole : List (Symbol Token)) → Holds l.sort l.initial.blocks l.fn.at (map lifted (symbols l.sort l.pattern) ++ rest) whole → Holds l.sort l.blocks l.at (map lifted (symbols l.sort l.left) ++ rest) whole;
+  whole : (rest whole : List (Symbol Token))
+      → Holds l.sort l.initial.blocks l.fn.at (map lifted (symbols l.sort l.pattern) ++ rest) whole
+      → Holds l.sort l.blocks l.at (map lifted (symbols l.sort l.left) ++ rest) whole;
 }
 
 abbrev pub decreases-loop-element : goal.decreases-loop-element

@@ -12,5 +12,6 @@ returns-then-is_none_reached-clause-places c = λ symbols table room.
     let dead : list_all (λ word. word == 0) c.walk_name.new.reached ≡ true = search rules in
     walk_dead symbols c.walk_name.new.reached (stream (names_left c.next.new.self)) [] dead
     ∙ walk_name_more symbols _ _ _ c.loop-name.reached c.walk_name.new.reached _ c.in-Some.ensures.steps
-    (c.walk_name.ensures.places symbols (stream (names_left c.next.new.self)) table (omega (arith, c.loop-name.invariant.len, room)))
+    (c.walk_name.ensures.places symbols (stream (names_left c.next.new.self)) table
+    (omega (arith, c.loop-name.invariant.len, room)))
     (c.loop-name.invariant.whole symbols table room)

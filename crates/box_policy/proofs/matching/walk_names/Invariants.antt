@@ -13,6 +13,8 @@ use Rattle.box_policy.proofs.matching.walk_names.Given as goal
 abbrev pub invariant-loop-name : goal.invariant-loop-name
 invariant-loop-name l = record {
   len : length l.reached ≡ length l.initial.reached;
-  whole : (symbols : List (Symbol Token)) → IsTable Component l.blocks symbols → ones symbols < 64 * length l.initial.reached
-      → reach (has l.reached) (row never symbols) (stream (names_left l.subject)) ≡ reach (has l.initial.reached) (row never symbols) (stream (names_left l.fn.subject));
+  whole : (symbols : List (Symbol Token)) → IsTable Component l.blocks symbols
+      → ones symbols < 64 * length l.initial.reached
+      → reach (has l.reached) (row never symbols) (stream (names_left l.subject)) ≡ reach (has l.initial.reached)
+      (row never symbols) (stream (names_left l.fn.subject));
 }

@@ -7,7 +7,8 @@ use Rattle.box_policy.proofs.names.goes_up.Given as goal
 
 -- what was passed over does not go up
 abbrev pub invariant-loop-name : goal.invariant-loop-name
-invariant-loop-name l = list_any (λ name. bytes_eq name (codes "..")) (names l.rest) ≡ list_any (λ name. bytes_eq name (codes "..")) (names l.text)
+invariant-loop-name l = list_any (λ name. bytes_eq name (codes "..")) (names l.rest)
+    ≡ list_any (λ name. bytes_eq name (codes "..")) (names l.text)
 
 abbrev pub decreases-loop-name : goal.decreases-loop-name
 decreases-loop-name l = length (names l.rest)

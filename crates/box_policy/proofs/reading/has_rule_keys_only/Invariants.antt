@@ -7,4 +7,5 @@ use Rattle.box_policy.proofs.reading.has_rule_keys_only.Given as goal
 
 -- those before pass
 abbrev pub invariant-loop-key : goal.invariant-loop-key
-invariant-loop-key l = list_all (λ key. is_rule_key l.version (string_bytes key)) l.key-iterator ≡ keys_pass (is_rule_key l.version) (table_view l.table)
+invariant-loop-key l = list_all (λ key. is_rule_key l.version (string_bytes key)) l.key-iterator
+    ≡ keys_pass (is_rule_key l.version) (table_view l.table)

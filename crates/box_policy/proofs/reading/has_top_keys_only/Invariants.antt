@@ -7,4 +7,5 @@ use Rattle.box_policy.proofs.reading.has_top_keys_only.Given as goal
 
 -- those before pass
 abbrev pub invariant-loop-key : goal.invariant-loop-key
-invariant-loop-key l = list_all (λ key. is_top_key (string_bytes key)) l.key-iterator ≡ keys_pass is_top_key (table_view l.table)
+invariant-loop-key l = list_all (λ key. is_top_key (string_bytes key)) l.key-iterator ≡ keys_pass is_top_key
+    (table_view l.table)

@@ -10,9 +10,12 @@ use Rattle.box_policy.specs.Written.{WritesRule}
 use Rattle.box_policy.proofs.reading.read_rules.Goals as goal
 
 -- where no table is left, the rules so far are those of all tables
-all_written : (all rest : List Members) (rules : List Rule) → rest ≡ [] → ((more : List Rule) → AllZip WritesRule rest more → AllZip WritesRule all (rules ++ more)) → AllZip WritesRule all rules
+all_written : (all rest : List Members) (rules : List Rule) → rest ≡ []
+    → ((more : List Rule) → AllZip WritesRule rest more → AllZip WritesRule all (rules ++ more))
+    → AllZip WritesRule all rules
 all_written all rest rules none written =
-    subst (AllZip WritesRule all) (append-nil rules) (written [] (subst (λ (left : List Members). AllZip WritesRule left []) (sym none) tt))
+    subst (AllZip WritesRule all) (append-nil rules)
+    (written [] (subst (λ (left : List Members). AllZip WritesRule left []) (sym none) tt))
 
 pub returns-clause-ok : goal.returns-clause-ok
 returns-clause-ok c =

@@ -8,6 +8,7 @@ use Rattle.box_policy.proofs.reading.rule_items.Goals as goal
 
 pub returns-then-are_tables-clause-count : goal.returns-then-are_tables-clause-count
 returns-then-are_tables-clause-count c =
-    let same : tables_in (items_view c.as_slice-items.result.now) ≡ tables_of (get_member (codes "rule") (table_view c.args.table.now)) = search rules in
+    let same : tables_in (items_view c.as_slice-items.result.now)
+    ≡ tables_of (get_member (codes "rule") (table_view c.args.table.now)) = search rules in
     let tables : are_tables (items_view c.as_slice-items.result.now) ≡ true = cc in
     sym (length-tables_in c.as_slice-items.result.now tables) ∙ ap length same

@@ -11,6 +11,8 @@ use Rattle.box_policy.proofs.table.walk_text.Given as goal
 abbrev pub invariant-loop-byte : goal.invariant-loop-byte
 invariant-loop-byte l = record {
   len : length l.reached ≡ length l.initial.reached;
-  whole : (symbols : List (Symbol Token)) (rest : List Token) → IsTable l.sort l.blocks symbols → ones symbols < 64 * length l.initial.reached
-      → reach (has l.reached) (row never symbols) (map Byte (drop l.byte-index l.text) ++ rest) ≡ reach (has l.initial.reached) (row never symbols) (map Byte l.text ++ rest);
+  whole : (symbols : List (Symbol Token)) (rest : List Token) → IsTable l.sort l.blocks symbols
+      → ones symbols < 64 * length l.initial.reached
+      → reach (has l.reached) (row never symbols) (map Byte (drop l.byte-index l.text) ++ rest)
+      ≡ reach (has l.initial.reached) (row never symbols) (map Byte l.text ++ rest);
 }

@@ -14,7 +14,8 @@ returns-clause-kept c =
     let head : Option Head = c.in_ok-outline.outline.head in
     let of : IsHeadOf rule.kind (pieces base rule.kind rule.pattern) head =
     subst (λ (b : List ℕ). IsHeadOf rule.kind (pieces b rule.kind rule.pattern) head) c.base.ensures
-    (subst (λ (t : List ℕ). IsHeadOf rule.kind (pieces c.base.result.now rule.kind t) head) c.bytes.ensures c.in_ok-outline.ensures.head) in
+    (subst (λ (t : List ℕ). IsHeadOf rule.kind (pieces c.base.result.now rule.kind t) head) c.bytes.ensures
+    c.in_ok-outline.ensures.head) in
     subst (λ (hs : List (Option Head)). HasHeads base c.push-2.new.self.items hs) (sym c.in_ok-push.ensures.items)
     (subst (λ (rs : List Rule). HasHeads base rs (heads ++ head ∷ [])) (sym c.in_ok-push-2.ensures.items)
     (has_more base rules heads rule head c.requires.kept c.requires.short of))

@@ -15,9 +15,12 @@ loop-at-preserved c =
     let is : shelf key.kind key.group key.first.items ≡ shelf_of rule = c.in_ok-kept.ensures ∙ c.shelf_of.ensures in
     record {
       within = omega (arith, within);
-      firsts = firsts_step (λ k. shelf k.kind k.group k.first.items) c.args.rules.now (at - 1) at rule key c.loop-at.firsts.entries c.insert.new.self.entries count split is
+      firsts = firsts_step (λ k. shelf k.kind k.group k.first.items) c.args.rules.now (at - 1) at rule key
+          c.loop-at.firsts.entries c.insert.new.self.entries count split is
           c.in_ok-next.ensures.entries c.loop-at.invariant.firsts;
-      nexts = nexts_step c.args.rules.now (at - 1) at rule c.in_ok-next.next c.loop-at.nexts.items c.push.new.self.items count split
-          (c.in_ok-next.ensures.old ∙ (c.loop-at.invariant.firsts (shelf key.kind key.group key.first.items) ∙ ap (λ s. first_of (stands s) (at + 1) (drop at c.args.rules.now)) is))
+      nexts = nexts_step c.args.rules.now (at - 1) at rule c.in_ok-next.next c.loop-at.nexts.items c.push.new.self.items
+          count split
+          (c.in_ok-next.ensures.old ∙ (c.loop-at.invariant.firsts (shelf key.kind key.group key.first.items)
+          ∙ ap (λ s. first_of (stands s) (at + 1) (drop at c.args.rules.now)) is))
           c.loop-at.invariant.nexts c.in_ok-push.ensures.items;
     }

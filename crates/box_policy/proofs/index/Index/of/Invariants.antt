@@ -8,7 +8,8 @@ use Rattle.box_policy.proofs.index.Index.of.Given as goal
 abbrev pub invariant-loop-at : goal.invariant-loop-at
 invariant-loop-at l = record {
   within : l.at ≤ length l.rules;
-  firsts : (place : List ℕ) → lookup (λ k. bytes_eq place (shelf k.kind k.group k.first.items)) l.firsts.entries ≡ first_of (stands place) (l.at + 1) (drop l.at l.rules);
+  firsts : (place : List ℕ) → lookup (λ k. bytes_eq place (shelf k.kind k.group k.first.items)) l.firsts.entries
+      ≡ first_of (stands place) (l.at + 1) (drop l.at l.rules);
   nexts : l.nexts.items ≡ reverse (chain (l.at + 1) (drop l.at l.rules));
 }
 

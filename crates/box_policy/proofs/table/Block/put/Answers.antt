@@ -3,7 +3,8 @@ use Rattle.box_policy.proofs.TablesLemmas.{adds_byte, adds_open, adds_close, add
 use Rattle.box_policy.proofs.table.Block.put.Goals as goal
 
 pub returns-in-One-Byte : goal.returns-in-One-Byte
-returns-in-One-Byte c = adds_byte c.args.element c.args.mark c.in-One-Byte.byte c.args.self.now (search rules) (search rules)
+returns-in-One-Byte c = adds_byte c.args.element c.args.mark c.in-One-Byte.byte c.args.self.now (search rules)
+    (search rules)
 
 pub returns-in-One-Open : goal.returns-in-One-Open
 returns-in-One-Open c = adds_open c.args.element c.args.mark c.args.self.now (search rules)
