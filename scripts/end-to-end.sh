@@ -2855,7 +2855,7 @@ for page in awkbox.1 awkbox-policy.5; do
 done
 
 if man -l "$top/man/awkbox.1" >/dev/null 2>&1; then
-    MANWIDTH=200 MAN_KEEP_FORMATTING= man -l "$top/man/awkbox.1" 2>/dev/null >"$work/output"
+    MANWIDTH=300 MAN_KEEP_FORMATTING= man -l "$top/man/awkbox.1" 2>/dev/null >"$work/output"
     grep -qF -- '-f FILE | -e TEXT ... [-- OPERAND ...]' "$work/output"
     verdict "the manual page shows operands behind --"
 fi
