@@ -77,8 +77,8 @@ pub fn check(
     base: Option<&[u8]>,
     script: &[u8],
 ) -> Result<Answer, ListingRefusal>
-    ensures ok { IfOk result (Checks (option_map (λ b. b.now) base) policy.now script.now) }
-    ensures refused { IfErr result (IsCheckRefused (option_map (λ b. b.now) base) policy.now script.now) }
+    ensures ok { IfOk result (Checks (option_map (λ b. b.now) base.entry) policy.now script.now) }
+    ensures refused { IfErr result (IsCheckRefused (option_map (λ b. b.now) base.entry) policy.now script.now) }
 {
     let verdict = verdict_of(alloc, policy, base, script)?;
     let lines = verdict_lines(alloc, &verdict)?;
@@ -109,8 +109,8 @@ pub fn check_json(
     base: Option<&[u8]>,
     script: &[u8],
 ) -> Result<Answer, ListingRefusal>
-    ensures ok { IfOk result (ChecksJson (option_map (λ b. b.now) base) policy.now script.now) }
-    ensures refused { IfErr result (IsCheckRefused (option_map (λ b. b.now) base) policy.now script.now) }
+    ensures ok { IfOk result (ChecksJson (option_map (λ b. b.now) base.entry) policy.now script.now) }
+    ensures refused { IfErr result (IsCheckRefused (option_map (λ b. b.now) base.entry) policy.now script.now) }
 {
     let Listing { policy, sites } = listing_of(alloc, policy, base, script)?;
     Ok(judged_answer(alloc, &policy, sites)?)

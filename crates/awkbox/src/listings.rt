@@ -41,8 +41,8 @@ pub fn verdict_of(
     base: Option<&[u8]>,
     script: &[u8],
 ) -> Result<Verdict, ListingRefusal>
-    ensures ok { IfOk result (IsJudged (option_map (λ b. b.now) base) policy.now script.now) }
-    ensures refused { IfErr result (IsCheckRefused (option_map (λ b. b.now) base) policy.now script.now) }
+    ensures ok { IfOk result (IsJudged (option_map (λ b. b.now) base.entry) policy.now script.now) }
+    ensures refused { IfErr result (IsCheckRefused (option_map (λ b. b.now) base.entry) policy.now script.now) }
 {
     let policy = Policy::read_under(alloc, policy, base)?;
     let script = script_of(alloc, script)?;
@@ -66,9 +66,9 @@ pub(crate) fn listing_of(
     base: Option<&[u8]>,
     script: &[u8],
 ) -> Result<Listing, ListingRefusal>
-    ensures policy { IfOk result (λ listing. WrittenUnder (option_map (λ b. b.now) base) policy.now listing.policy) }
+    ensures policy { IfOk result (λ listing. WrittenUnder (option_map (λ b. b.now) base.entry) policy.now listing.policy) }
     ensures sites { IfOk result (λ listing. IsListed script.now listing.sites.items) }
-    ensures refused { IfErr result (IsCheckRefused (option_map (λ b. b.now) base) policy.now script.now) }
+    ensures refused { IfErr result (IsCheckRefused (option_map (λ b. b.now) base.entry) policy.now script.now) }
 {
     let policy = Policy::read_under(alloc, policy, base)?;
     let script = script_of(alloc, script)?;

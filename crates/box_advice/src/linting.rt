@@ -155,7 +155,7 @@ pub fn lint(
     text: &[u8],
     base: Option<&[u8]>,
 ) -> Result<Findings, Memory>
-    ensures { IfOk result (Lints (option_map (λ b. b.now) base) text.now) }
+    ensures { IfOk result (Lints (option_map (λ b. b.now) base.entry) text.now) }
 {
     match Policy::read_under(alloc, text, base) {
         Ok(policy) => in_order(alloc, name, file, text, &policy),

@@ -191,8 +191,8 @@ fn begun_with(
     text: &[u8],
     base: Option<&str>,
 ) -> Result<WrittenPolicy, ProposalError>
-    ensures ok { IfOk result (λ begun. WrittenUnder (option_map (λ s. s.now) base) text.now begun.policy) }
-    ensures refused { IfErr result (IsTextRefused text.now (option_map (λ s. s.now) base)) }
+    ensures ok { IfOk result (λ begun. WrittenUnder (option_map (λ s. s.now) base.entry) text.now begun.policy) }
+    ensures refused { IfErr result (IsTextRefused text.now (option_map (λ s. s.now) base.entry)) }
 {
     let policy = Policy::read_under(alloc, text, bytes_of(base))?;
     let text = Vec::from_slice(alloc, text)?;
@@ -290,7 +290,7 @@ fn reads(
 ) -> Result<bool, Memory>
     ensures { IfOk result
         (λ reads. reads ≡ true
-        → WrittenUnder (option_map (λ s. s.now) base) text.now (with_gained first.now gained.now)) }
+        → WrittenUnder (option_map (λ s. s.now) base.entry) text.now (with_gained first.now gained.now)) }
 {
     match Policy::read_under(alloc, text, bytes_of(base)) {
         Ok(policy) => Ok(
@@ -329,7 +329,7 @@ fn written(
 ) -> Result<Option<Vec<u8>>, Memory>
     ensures { IfOk result
         (λ found. IfSome found
-        (λ text. WrittenUnder (option_map (λ s. s.now) base) text.items
+        (λ text. WrittenUnder (option_map (λ s. s.now) base.entry) text.items
         (with_gained beginning.now.policy gains.now.rules.items))) }
 {
     let first = &beginning.policy;
@@ -355,9 +355,9 @@ fn proposed(
     wishes: &[Wish],
 ) -> Result<Vec<u8>, ProposalError>
     ensures ok { IfOk result
-        (λ text. IsText (option_map (λ s. s.now) base)
+        (λ text. IsText (option_map (λ s. s.now) base.entry)
         (with_gained beginning.now.policy (grants_from beginning.now.policy [] wishes.now)) text.items) }
-    ensures refused { IfErr result (IsGainRefused (option_map (λ s. s.now) base) beginning.now.policy wishes.now) }
+    ensures refused { IfErr result (IsGainRefused (option_map (λ s. s.now) base.entry) beginning.now.policy wishes.now) }
 {
     match Gains::of(alloc, &beginning.policy, wishes)? {
         Some(gains) => printed(alloc, base, beginning, &gains),
@@ -373,10 +373,10 @@ fn printed(
     gains: &Gains,
 ) -> Result<Vec<u8>, ProposalError>
     ensures ok { IfOk result
-        (λ text. IsText (option_map (λ s. s.now) base) (with_gained beginning.now.policy gains.now.rules.items)
+        (λ text. IsText (option_map (λ s. s.now) base.entry) (with_gained beginning.now.policy gains.now.rules.items)
         text.items) }
     ensures refused { IfErr result
-        (IsNotPrinted (option_map (λ s. s.now) base) (with_gained beginning.now.policy gains.now.rules.items)) }
+        (IsNotPrinted (option_map (λ s. s.now) base.entry) (with_gained beginning.now.policy gains.now.rules.items)) }
 {
     let Some(text) = written(alloc, base, beginning, gains)? else {
         return Err(ProposalError::Misprinted);
