@@ -64,6 +64,11 @@ is() {
         holds "$work/log" "$4"
 }
 
+# told STATUS OUTPUT ERRORS: whether the program ended with these
+told() {
+    [ "$status" -eq "$1" ] && holds "$work/output" "$2" && says "$3"
+}
+
 # verdict NAME: tells how the case ended, by the status of the test before
 verdict() {
     if [ $? -eq 0 ]; then
@@ -1811,11 +1816,6 @@ verdict "no note: each operand can be opened"
 rmdir in/folder
 
 # Listings and verdicts.
-
-# told STATUS OUTPUT ERRORS: whether the program ended with these
-told() {
-    [ "$status" -eq "$1" ] && holds "$work/output" "$2" && says "$3"
-}
 
 script '{ print $1 | "sort -r" }'
 awkbox list -f "$work/script.awk"
