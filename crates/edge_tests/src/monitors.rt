@@ -61,27 +61,47 @@ impl World for FakeWorld {
     ghost stops_later = { λ u v w xs ys ask p same q. tt };
 }
 
-// Takes at most `most` bytes a write, 64 in all, and fails at the write and at the flush with these numbers, counted
-// from 1. It takes no memory.
+// How a log takes what is written: at most `most` bytes a write, and it fails at the write and at the flush with these
+// numbers, counted from 1.
+#[derive(Clone, Copy)]
+struct Taking {
+    most: usize,
+    bad_write: u32,
+    bad_flush: u32,
+}
+
+const WHOLE: Taking = Taking {
+    most: usize::MAX,
+    bad_write: 0,
+    bad_flush: 0,
+};
+
+impl Taking {
+    fn new(most: usize, bad_write: u32, bad_flush: u32) -> Taking {
+        Taking {
+            most,
+            bad_write,
+            bad_flush,
+        }
+    }
+}
+
+// Takes 64 bytes in all, and no memory.
 #[derive(Drop)]
 struct FakeLog {
     bytes: [u8; 64],
     len: usize,
-    most: usize,
-    bad_write: u32,
-    bad_flush: u32,
+    taking: Taking,
     writes: u32,
     flushes: u32,
 }
 
 impl FakeLog {
-    fn new(most: usize, bad_write: u32, bad_flush: u32) -> FakeLog {
+    fn new(taking: Taking) -> FakeLog {
         FakeLog {
             bytes: [0; 64],
             len: 0,
-            most,
-            bad_write,
-            bad_flush,
+            taking,
             writes: 0,
             flushes: 0,
         }
@@ -95,10 +115,10 @@ impl FakeLog {
 impl Write for FakeLog {
     fn write(&mut self, buf: &[u8]) -> io::Result<usize> {
         self.writes = self.writes.saturating_add(1);
-        if self.writes == self.bad_write {
+        if self.writes == self.taking.bad_write {
             return Err(io::Error::from(ErrorKind::Interrupted));
         }
-        let wanted = &buf[..buf.len().min(self.most)];
+        let wanted = &buf[..buf.len().min(self.taking.most)];
         let taken = (&mut self.bytes[self.len.min(64)..]).write(wanted)?;
         self.len = self.len.saturating_add(taken);
         Ok(taken)
@@ -106,14 +126,12 @@ impl Write for FakeLog {
 
     fn flush(&mut self) -> io::Result<()> {
         self.flushes = self.flushes.saturating_add(1);
-        if self.flushes == self.bad_flush {
+        if self.flushes == self.taking.bad_flush {
             return Err(io::Error::from(ErrorKind::Interrupted));
         }
         Ok(())
     }
 }
-
-const WHOLE: usize = usize::MAX;
 
 const NO_RULES: &[u8] = b"version = 1\nbase = \"/w\"\n";
 
@@ -208,7 +226,7 @@ fn a_monitor_that_stops_at_a_denial_fails_the_row(rt: HostRuntime) -> Result<(),
 struct Row<'a> {
     policy: &'a [u8],
     stop: Option<Stop>,
-    log: FakeLog,
+    log: Taking,
     asks: &'a [(Asked, Told)],
     again: bool,
 }
@@ -256,7 +274,7 @@ fn leaves(alloc: Global, row: Row<'_>, wanted: &Left<'_>) -> Result<bool, Memory
     let Ok(policy) = Policy::read(alloc, row.policy) else {
         return Err(AllocError);
     };
-    let mut monitor = Monitor::new(alloc, policy, fake_world(row.stop), row.log);
+    let mut monitor = Monitor::new(alloc, policy, fake_world(row.stop), FakeLog::new(row.log));
     let as_told = is_as_told(alloc, &mut monitor, row.asks, row.again);
     let (end, denials) = (monitor.log_end(), monitor.denials());
     let (policy, world, log) = monitor.into_parts();
@@ -282,7 +300,7 @@ const BREAKS: [(Asked, Told); 5] = [
 // Whether the denial after `before` others breaks the log.
 fn breaks(
     alloc: Global,
-    log: FakeLog,
+    log: Taking,
     before: usize,
     end: LogEnd,
     text: &[u8],
@@ -308,10 +326,10 @@ fn breaks(
 fn a_failed_write_leaves_a_part(rt: HostRuntime) -> Result<(), Fail> {
     let alloc = rt.alloc();
     let part = LogEnd::Part;
-    assert!(rt; breaks(alloc, FakeLog::new(WHOLE, 1, 0), 0, part, b"")?);
-    assert!(rt; breaks(alloc, FakeLog::new(1, 3, 0), 0, part, b"1:")?);
-    assert!(rt; breaks(alloc, FakeLog::new(0, 0, 0), 0, part, b"")?);
-    assert!(rt; breaks(alloc, FakeLog::new(WHOLE, 3, 0), 2, part, TWO_LINES)?);
+    assert!(rt; breaks(alloc, Taking::new(usize::MAX, 1, 0), 0, part, b"")?);
+    assert!(rt; breaks(alloc, Taking::new(1, 3, 0), 0, part, b"1:")?);
+    assert!(rt; breaks(alloc, Taking::new(0, 0, 0), 0, part, b"")?);
+    assert!(rt; breaks(alloc, Taking::new(usize::MAX, 3, 0), 2, part, TWO_LINES)?);
     Ok(())
 }
 
@@ -319,8 +337,8 @@ fn a_failed_write_leaves_a_part(rt: HostRuntime) -> Result<(), Fail> {
 fn a_failed_flush_leaves_it_unsure(rt: HostRuntime) -> Result<(), Fail> {
     let alloc = rt.alloc();
     let unsure = LogEnd::Unsure;
-    assert!(rt; breaks(alloc, FakeLog::new(WHOLE, 0, 1), 0, unsure, LINE)?);
-    assert!(rt; breaks(alloc, FakeLog::new(5, 0, 2), 1, unsure, TWO_LINES)?);
+    assert!(rt; breaks(alloc, Taking::new(usize::MAX, 0, 1), 0, unsure, LINE)?);
+    assert!(rt; breaks(alloc, Taking::new(5, 0, 2), 1, unsure, TWO_LINES)?);
     Ok(())
 }
 
@@ -329,7 +347,7 @@ fn a_log_may_take_one_byte_at_a_time(rt: HostRuntime) -> Result<(), Fail> {
     let row = Row {
         policy: NO_RULES,
         stop: None,
-        log: FakeLog::new(1, 0, 2),
+        log: Taking::new(1, 0, 2),
         asks: &[(Asked::File, Told::Failed)],
         again: false,
     };
@@ -349,7 +367,7 @@ fn a_full_log_of_the_world_stops_it(rt: HostRuntime) -> Result<(), Fail> {
     let row = Row {
         policy: NO_RULES,
         stop: Some(Stop::Log),
-        log: FakeLog::new(WHOLE, 0, 0),
+        log: WHOLE,
         asks: &[(Asked::Bytes, Told::NoLog), (Asked::File, Told::NoLog)],
         again: false,
     };
@@ -369,7 +387,7 @@ fn it_goes_on_where_the_world_had_no_memory(rt: HostRuntime) -> Result<(), Fail>
     let row = Row {
         policy: NO_RULES,
         stop: Some(Stop::Memory),
-        log: FakeLog::new(WHOLE, 0, 0),
+        log: WHOLE,
         asks: &[(Asked::Bytes, Told::NoMemory), (Asked::File, Told::Failed)],
         again: false,
     };
@@ -389,7 +407,7 @@ fn counts(alloc: Global, stop: Option<Stop>, told: Told, used: u64) -> Result<bo
     let row = Row {
         policy: TWO_WRITES,
         stop,
-        log: FakeLog::new(WHOLE, 0, 0),
+        log: WHOLE,
         asks: &[(Asked::File, told)],
         again: false,
     };
@@ -419,7 +437,7 @@ fn refused_memory_changes_nothing(rt: HostRuntime) {
     let row = Row {
         policy: NO_RULES,
         stop: None,
-        log: FakeLog::new(WHOLE, 0, 0),
+        log: WHOLE,
         asks: &[(Asked::File, Told::Failed)],
         again: true,
     };
@@ -440,7 +458,7 @@ fn an_allowed_ask_needs_no_memory(rt: HostRuntime) {
     let row = Row {
         policy: TWO_WRITES,
         stop: None,
-        log: FakeLog::new(WHOLE, 0, 0),
+        log: WHOLE,
         asks: &[
             (Asked::Bytes, Told::Done),
             (Asked::File, Told::Failed),
