@@ -11,9 +11,8 @@ use box_monitor::monitor::Monitor;
 use box_policy::policy::Policy;
 use box_world::ask::{Ask, Mode, Reply, Request, Stop};
 use box_world::world::World;
-use std::alloc::Global;
+use std::alloc::{AllocError, Global};
 use std::io::{self, ErrorKind, Write};
-use std::process::Abort;
 use std::test::Fail;
 
 // Opens nothing, does what it is asked to put or to run, and counts the asks. Where it has a stop,
@@ -62,52 +61,84 @@ impl World for FakeWorld {
     ghost stops_later = { λ u v w xs ys ask p same q. tt };
 }
 
-// Takes at most `most` bytes a write, and fails at the write and at the flush with these numbers,
-// counted from 1.
-#[derive(Drop)]
-struct FakeLog {
-    text: Vec<u8>,
+// How a log takes what is written: at most `most` bytes a write, and it fails at the write and at the flush with these
+// numbers, counted from 1.
+#[derive(Clone, Copy)]
+struct Taking {
     most: usize,
     bad_write: u32,
     bad_flush: u32,
+}
+
+const WHOLE: Taking = Taking {
+    most: usize::MAX,
+    bad_write: 0,
+    bad_flush: 0,
+};
+
+impl Taking {
+    fn new(most: usize, bad_write: u32, bad_flush: u32) -> Taking {
+        Taking {
+            most,
+            bad_write,
+            bad_flush,
+        }
+    }
+}
+
+// Takes 64 bytes in all, and no memory.
+#[derive(Drop)]
+struct FakeLog {
+    bytes: [u8; 64],
+    len: usize,
+    taking: Taking,
     writes: u32,
     flushes: u32,
+}
+
+impl FakeLog {
+    fn new(taking: Taking) -> FakeLog {
+        FakeLog {
+            bytes: [0; 64],
+            len: 0,
+            taking,
+            writes: 0,
+            flushes: 0,
+        }
+    }
+
+    fn text(&self) -> &[u8] {
+        &self.bytes[..self.len.min(64)]
+    }
 }
 
 impl Write for FakeLog {
     fn write(&mut self, buf: &[u8]) -> io::Result<usize> {
         self.writes = self.writes.saturating_add(1);
-        if self.writes == self.bad_write {
+        if self.writes == self.taking.bad_write {
             return Err(io::Error::from(ErrorKind::Interrupted));
         }
-        let taken = buf.len().min(self.most);
-        self.text.extend_from_slice(&buf[..taken])?;
+        let wanted = &buf[..buf.len().min(self.taking.most)];
+        let taken = (&mut self.bytes[self.len.min(64)..]).write(wanted)?;
+        self.len = self.len.saturating_add(taken);
         Ok(taken)
     }
 
     fn flush(&mut self) -> io::Result<()> {
         self.flushes = self.flushes.saturating_add(1);
-        if self.flushes == self.bad_flush {
+        if self.flushes == self.taking.bad_flush {
             return Err(io::Error::from(ErrorKind::Interrupted));
         }
         Ok(())
     }
 }
 
-fn fake_log(alloc: Global, most: usize, bad_write: u32, bad_flush: u32) -> FakeLog {
-    FakeLog {
-        text: Vec::new(alloc),
-        most,
-        bad_write,
-        bad_flush,
-        writes: 0,
-        flushes: 0,
-    }
-}
-
-const WHOLE: usize = usize::MAX;
-
 const NO_RULES: &[u8] = b"version = 1\nbase = \"/w\"\n";
+
+const TWO_WRITES: &[u8] = b"version = 2
+base = \"/w\"
+rule = [{ effect = \"allow\", kind = \"write\", match = \"/etc/*\", limit = 2 }]
+";
 
 const LINE: &[u8] = b"1:19 write none \"/etc/x\"\n";
 
@@ -121,10 +152,6 @@ fn fake_world(stop: Option<Stop>) -> FakeWorld {
     }
 }
 
-fn text(alloc: Global, bytes: &[u8]) -> Result<Octets, Memory> {
-    Ok(Octets::of(alloc, bytes)?)
-}
-
 fn ask_at(line: u32, column: u32, request: Request) -> Ask
     ensures { result.request ≡ request }
 {
@@ -135,254 +162,316 @@ fn ask_at(line: u32, column: u32, request: Request) -> Ask
     }
 }
 
-// An ask that a policy without rules denies.
-fn denied(alloc: Global) -> Result<Ask, Memory>
-    ensures { IfOk result (λ ask. IsDuty [] ask.request) }
-{
-    let name = text(alloc, b"/etc/x")?;
-    Ok(ask_at(1, 19, Request::Open(Mode::Write, name)))
+// A file to write, which a policy without rules denies, and bytes to put, which none does.
+#[derive(Clone, Copy)]
+enum Asked {
+    File,
+    Bytes,
 }
 
-// An ask that no policy denies.
-fn put(alloc: Global) -> Result<Ask, Memory>
-    ensures { IfOk result (λ ask. IsDuty [] ask.request) }
-{
-    let bytes = text(alloc, b"hi\n")?;
-    Ok(ask_at(1, 2, Request::Put(1, bytes)))
+impl Asked {
+    fn ask(self, alloc: Global) -> Result<Ask, Memory>
+        ensures { IfOk result (λ ask. IsDuty [] ask.request) }
+    {
+        match self {
+            Asked::File => Ok(ask_at(
+                1,
+                19,
+                Request::Open(Mode::Write, Octets::of(alloc, b"/etc/x")?),
+            )),
+            Asked::Bytes => Ok(ask_at(1, 2, Request::Put(1, Octets::of(alloc, b"hi\n")?))),
+        }
+    }
 }
 
-fn is_failed(answer: Result<Reply, Stop>) -> bool {
-    matches!(answer, Ok(Reply::Failed))
+#[derive(Clone, Copy, PartialEq)]
+enum Told {
+    Failed,
+    Done,
+    NoMemory,
+    NoLog,
+    Otherwise,
+}
+
+impl Told {
+    fn of(answer: Result<Reply, Stop>) -> Told {
+        match answer {
+            Ok(Reply::Failed) => Told::Failed,
+            Ok(Reply::Done) => Told::Done,
+            Err(Stop::Memory) => Told::NoMemory,
+            Err(Stop::Log) => Told::NoLog,
+            _ => Told::Otherwise,
+        }
+    }
 }
 
 // The row of a denied ask, over whatever stands in the monitor's place: it fails, and stops nothing.
 fn fails<W: World>(world: &mut W, ask: &Ask) -> bool
     requires { IsDuty (W.open_numbers world.old) ask.now.request }
 {
-    is_failed(world.ask(ask))
+    Told::of(world.ask(ask)) == Told::Failed
 }
 
 // Of this row only a denial reaches the monitor, so a wrong one that stops at denials stops at all.
 #[test]
 fn a_monitor_that_stops_at_a_denial_fails_the_row(rt: HostRuntime) -> Result<(), Fail> {
-    let ask = denied(rt.alloc())?;
-    let mut wrong = fake_world(Some(Stop::Log));
-    assert!(rt; !fails(&mut wrong, &ask));
+    let ask = Asked::File.ask(rt.alloc())?;
+    assert!(rt; !fails(&mut fake_world(Some(Stop::Log)), &ask));
     Ok(())
 }
 
-// The denial after `before` others breaks the log. From then on nothing is done.
-fn breaks(
-    rt: &impl Abort,
-    alloc: Global,
-    log: FakeLog,
-    before: u64,
+// What a monitor is made of, and what it is asked, each with its answer. Where `again` is set, an ask that had no memory
+// is asked once more, if it changed nothing.
+#[derive(Drop)]
+struct Row<'a> {
+    policy: &'a [u8],
+    stop: Option<Stop>,
+    log: Taking,
+    asks: &'a [(Asked, Told)],
+    again: bool,
+}
+
+// What is left of it. `asks` counts those that came to the world, `used` how often the first rule allowed.
+#[derive(PartialEq, Drop)]
+struct Left<'a> {
     end: LogEnd,
-    kept: &[u8],
-) -> Result<(), Fail> {
-    let policy = Policy::read(alloc, NO_RULES)?;
-    let ask = denied(alloc)?;
-    let put = put(alloc)?;
-    let mut monitor = Monitor::new(alloc, policy, fake_world(None), log);
-    for _ in 0..before {
-        assert!(rt; is_failed(monitor.ask(&ask)));
+    denials: u64,
+    used: u64,
+    asks: u32,
+    text: &'a [u8],
+}
+
+fn answer(monitor: &mut Monitor<FakeWorld, FakeLog>, ask: &Ask, again: bool) -> Told
+    requires { IsDuty [] ask.now.request }
+{
+    let before = monitor.denials();
+    let first = Told::of(monitor.ask(ask));
+    if again && first == Told::NoMemory && monitor.denials() == before {
+        Told::of(monitor.ask(ask))
+    } else {
+        first
     }
-    for ask in [&ask, &ask, &put] {
-        assert!(rt; matches!(monitor.ask(ask), Err(Stop::Log)));
-        assert!(rt; monitor.log_end() == end);
+}
+
+fn is_as_told(
+    alloc: Global,
+    monitor: &mut Monitor<FakeWorld, FakeLog>,
+    asks: &[(Asked, Told)],
+    again: bool,
+) -> Result<bool, Memory> {
+    for (asked, wanted) in asks {
+        let ask = asked.ask(alloc)?;
+        if answer(monitor, &ask, again) != *wanted {
+            return Ok(false);
+        }
     }
-    assert_eq!(rt; monitor.denials(), before);
-    let (_, world, log) = monitor.into_parts();
-    assert_eq!(rt; world.asks, 0);
-    assert_eq!(rt; log.text.as_slice(), kept);
-    Ok(())
+    Ok(true)
+}
+
+// Whether the monitor answers as told, and leaves what is wanted. It is large, and is let go on each way out: so one
+// function makes it, and hands it on.
+fn leaves(alloc: Global, row: Row<'_>, wanted: &Left<'_>) -> Result<bool, Memory> {
+    let Ok(policy) = Policy::read(alloc, row.policy) else {
+        return Err(AllocError);
+    };
+    let mut monitor = Monitor::new(alloc, policy, fake_world(row.stop), FakeLog::new(row.log));
+    let as_told = is_as_told(alloc, &mut monitor, row.asks, row.again);
+    let (end, denials) = (monitor.log_end(), monitor.denials());
+    let (policy, world, log) = monitor.into_parts();
+    let left = Left {
+        end,
+        denials,
+        used: policy.used(1),
+        asks: world.asks,
+        text: log.text(),
+    };
+    Ok(as_told? && left == *wanted)
+}
+
+// From the third one on the log is broken, and nothing is done.
+const BREAKS: [(Asked, Told); 5] = [
+    (Asked::File, Told::Failed),
+    (Asked::File, Told::Failed),
+    (Asked::File, Told::NoLog),
+    (Asked::File, Told::NoLog),
+    (Asked::Bytes, Told::NoLog),
+];
+
+// Whether the denial after `before` others breaks the log.
+fn breaks(
+    alloc: Global,
+    log: Taking,
+    before: usize,
+    end: LogEnd,
+    text: &[u8],
+) -> Result<bool, Memory> {
+    let row = Row {
+        policy: NO_RULES,
+        stop: None,
+        log,
+        asks: &BREAKS[2_usize.saturating_sub(before)..],
+        again: false,
+    };
+    let left = Left {
+        end,
+        denials: before as u64,
+        used: 0,
+        asks: 0,
+        text,
+    };
+    leaves(alloc, row, &left)
 }
 
 #[test]
 fn a_failed_write_leaves_a_part(rt: HostRuntime) -> Result<(), Fail> {
     let alloc = rt.alloc();
-    breaks(
-        &rt,
-        alloc,
-        fake_log(alloc, WHOLE, 1, 0),
-        0,
-        LogEnd::Part,
-        b"",
-    )?;
-    breaks(&rt, alloc, fake_log(alloc, 1, 3, 0), 0, LogEnd::Part, b"1:")?;
-    breaks(&rt, alloc, fake_log(alloc, 0, 0, 0), 0, LogEnd::Part, b"")?;
-    breaks(
-        &rt,
-        alloc,
-        fake_log(alloc, WHOLE, 3, 0),
-        2,
-        LogEnd::Part,
-        TWO_LINES,
-    )
+    let part = LogEnd::Part;
+    assert!(rt; breaks(alloc, Taking::new(usize::MAX, 1, 0), 0, part, b"")?);
+    assert!(rt; breaks(alloc, Taking::new(1, 3, 0), 0, part, b"1:")?);
+    assert!(rt; breaks(alloc, Taking::new(0, 0, 0), 0, part, b"")?);
+    assert!(rt; breaks(alloc, Taking::new(usize::MAX, 3, 0), 2, part, TWO_LINES)?);
+    Ok(())
 }
 
 #[test]
 fn a_failed_flush_leaves_it_unsure(rt: HostRuntime) -> Result<(), Fail> {
     let alloc = rt.alloc();
-    breaks(
-        &rt,
-        alloc,
-        fake_log(alloc, WHOLE, 0, 1),
-        0,
-        LogEnd::Unsure,
-        LINE,
-    )?;
-    breaks(
-        &rt,
-        alloc,
-        fake_log(alloc, 5, 0, 2),
-        1,
-        LogEnd::Unsure,
-        TWO_LINES,
-    )
+    let unsure = LogEnd::Unsure;
+    assert!(rt; breaks(alloc, Taking::new(usize::MAX, 0, 1), 0, unsure, LINE)?);
+    assert!(rt; breaks(alloc, Taking::new(5, 0, 2), 1, unsure, TWO_LINES)?);
+    Ok(())
 }
 
 #[test]
 fn a_log_may_take_one_byte_at_a_time(rt: HostRuntime) -> Result<(), Fail> {
-    let alloc = rt.alloc();
-    let policy = Policy::read(alloc, NO_RULES)?;
-    let ask = denied(alloc)?;
-    let mut monitor = Monitor::new(alloc, policy, fake_world(None), fake_log(alloc, 1, 0, 0));
-    assert!(rt; is_failed(monitor.ask(&ask)));
-    assert!(rt; monitor.log_end() == LogEnd::Whole);
-    let (_, _, log) = monitor.into_parts();
-    assert_eq!(rt; log.text.as_slice(), LINE);
-    assert_eq!(rt; log.flushes, 1);
+    let row = Row {
+        policy: NO_RULES,
+        stop: None,
+        log: Taking::new(1, 0, 2),
+        asks: &[(Asked::File, Told::Failed)],
+        again: false,
+    };
+    let left = Left {
+        end: LogEnd::Whole,
+        denials: 1,
+        used: 0,
+        asks: 0,
+        text: LINE,
+    };
+    assert!(rt; leaves(rt.alloc(), row, &left)?);
     Ok(())
 }
 
 #[test]
 fn a_full_log_of_the_world_stops_it(rt: HostRuntime) -> Result<(), Fail> {
-    let alloc = rt.alloc();
-    let policy = Policy::read(alloc, NO_RULES)?;
-    let ask = denied(alloc)?;
-    let put = put(alloc)?;
-    let mut monitor = Monitor::new(alloc, policy, fake_world(Some(Stop::Log)), Vec::new(alloc));
-    assert!(rt; matches!(monitor.ask(&put), Err(Stop::Log)));
-    assert!(rt; matches!(monitor.ask(&ask), Err(Stop::Log)));
-    assert!(rt; monitor.log_end() == LogEnd::Whole);
-    let (_, world, log) = monitor.into_parts();
-    assert_eq!(rt; world.asks, 1);
-    assert!(rt; log.is_empty());
+    let row = Row {
+        policy: NO_RULES,
+        stop: Some(Stop::Log),
+        log: WHOLE,
+        asks: &[(Asked::Bytes, Told::NoLog), (Asked::File, Told::NoLog)],
+        again: false,
+    };
+    let left = Left {
+        end: LogEnd::Whole,
+        denials: 0,
+        used: 0,
+        asks: 1,
+        text: b"",
+    };
+    assert!(rt; leaves(rt.alloc(), row, &left)?);
     Ok(())
 }
 
 #[test]
 fn it_goes_on_where_the_world_had_no_memory(rt: HostRuntime) -> Result<(), Fail> {
-    let alloc = rt.alloc();
-    let policy = Policy::read(alloc, NO_RULES)?;
-    let ask = denied(alloc)?;
-    let put = put(alloc)?;
-    let mut monitor = Monitor::new(
-        alloc,
-        policy,
-        fake_world(Some(Stop::Memory)),
-        Vec::new(alloc),
-    );
-    assert!(rt; matches!(monitor.ask(&put), Err(Stop::Memory)));
-    assert!(rt; is_failed(monitor.ask(&ask)));
+    let row = Row {
+        policy: NO_RULES,
+        stop: Some(Stop::Memory),
+        log: WHOLE,
+        asks: &[(Asked::Bytes, Told::NoMemory), (Asked::File, Told::Failed)],
+        again: false,
+    };
+    let left = Left {
+        end: LogEnd::Whole,
+        denials: 1,
+        used: 0,
+        asks: 1,
+        text: LINE,
+    };
+    assert!(rt; leaves(rt.alloc(), row, &left)?);
     Ok(())
 }
 
-const TWO_WRITES: &[u8] = b"version = 2
-base = \"/w\"
-rule = [{ effect = \"allow\", kind = \"write\", match = \"/etc/*\", limit = 2 }]
-";
-
-// How often the one rule has allowed once this world was asked for the file that it allows, as the monitor gives it
-// back.
-fn used_by(alloc: Global, world: FakeWorld) -> Result<u64, Fail> {
-    let policy = Policy::read(alloc, TWO_WRITES)?;
-    let ask = denied(alloc)?;
-    let mut monitor = Monitor::new(alloc, policy, world, Vec::new(alloc));
-    let _ = monitor.ask(&ask);
-    let (policy, _, _) = monitor.into_parts();
-    Ok(policy.used(1))
+// Whether the one rule has allowed so often once this world was asked for the file that it allows.
+fn counts(alloc: Global, stop: Option<Stop>, told: Told, used: u64) -> Result<bool, Memory> {
+    let row = Row {
+        policy: TWO_WRITES,
+        stop,
+        log: WHOLE,
+        asks: &[(Asked::File, told)],
+        again: false,
+    };
+    let left = Left {
+        end: LogEnd::Whole,
+        denials: 0,
+        used,
+        asks: 1,
+        text: b"",
+    };
+    leaves(alloc, row, &left)
 }
 
 #[test]
 fn an_answer_counts_and_a_stop_does_not(rt: HostRuntime) -> Result<(), Fail> {
     let alloc = rt.alloc();
-    assert_eq!(rt; used_by(alloc, fake_world(None))?, 1);
-    assert_eq!(rt; used_by(alloc, fake_world(Some(Stop::Memory)))?, 0);
-    assert_eq!(rt; used_by(alloc, fake_world(Some(Stop::Log)))?, 0);
+    assert!(rt; counts(alloc, None, Told::Failed, 1)?);
+    assert!(rt; counts(alloc, Some(Stop::Memory), Told::NoMemory, 0)?);
+    assert!(rt; counts(alloc, Some(Stop::Log), Told::NoLog, 0)?);
     Ok(())
-}
-
-// Holds the first 64 bytes and takes no memory.
-#[derive(Drop)]
-struct ShortLog {
-    bytes: [u8; 64],
-    len: usize,
-}
-
-impl Write for ShortLog {
-    fn write(&mut self, buf: &[u8]) -> io::Result<usize> {
-        let taken = (&mut self.bytes[self.len.min(64)..]).write(buf)?;
-        self.len = self.len.saturating_add(taken);
-        Ok(taken)
-    }
-
-    fn flush(&mut self) -> io::Result<()> {
-        Ok(())
-    }
 }
 
 // Run with each allocation refused in turn: the ask that had no memory changed nothing, and the
 // next one is answered.
 #[test]
-fn refused_memory_changes_nothing(rt: HostRuntime) -> Result<(), Fail> {
-    let alloc = rt.alloc();
-    let (Ok(policy), Ok(ask)) = (Policy::read(alloc, NO_RULES), denied(alloc)) else {
-        return Ok(());
+fn refused_memory_changes_nothing(rt: HostRuntime) {
+    let row = Row {
+        policy: NO_RULES,
+        stop: None,
+        log: WHOLE,
+        asks: &[(Asked::File, Told::Failed)],
+        again: true,
     };
-    let log = ShortLog {
-        bytes: [0; 64],
-        len: 0,
+    let left = Left {
+        end: LogEnd::Whole,
+        denials: 1,
+        used: 0,
+        asks: 0,
+        text: LINE,
     };
-    let mut monitor = Monitor::new(alloc, policy, fake_world(None), log);
-    let first = monitor.ask(&ask);
-    if matches!(first, Err(Stop::Memory)) {
-        assert_eq!(rt; monitor.denials(), 0);
-        assert!(rt; is_failed(monitor.ask(&ask)));
-    } else {
-        assert!(rt; is_failed(first));
-    }
-    let (_, world, log) = monitor.into_parts();
-    assert_eq!(rt; world.asks, 0);
-    assert_eq!(rt; log.len, LINE.len());
-    Ok(())
+    assert!(rt; leaves(rt.alloc(), row, &left).unwrap_or(true));
 }
 
 // Run with each allocation refused in turn: the world behind answers what is allowed, whatever memory the monitor had
 // for its own.
 #[test]
-fn an_allowed_ask_needs_no_memory(rt: HostRuntime) -> Result<(), Fail> {
-    let alloc = rt.alloc();
-    let (Ok(policy), Ok(ask), Ok(put)) = (
-        Policy::read(alloc, TWO_WRITES),
-        denied(alloc),
-        put(alloc),
-    ) else {
-        return Ok(());
+fn an_allowed_ask_needs_no_memory(rt: HostRuntime) {
+    let row = Row {
+        policy: TWO_WRITES,
+        stop: None,
+        log: WHOLE,
+        asks: &[
+            (Asked::Bytes, Told::Done),
+            (Asked::File, Told::Failed),
+            (Asked::File, Told::Failed),
+        ],
+        again: false,
     };
-    let log = ShortLog {
-        bytes: [0; 64],
-        len: 0,
+    let left = Left {
+        end: LogEnd::Whole,
+        denials: 0,
+        used: 2,
+        asks: 3,
+        text: b"",
     };
-    let mut monitor = Monitor::new(alloc, policy, fake_world(None), log);
-    assert!(rt; matches!(monitor.ask(&put), Ok(Reply::Done)));
-    for _ in 0..2 {
-        assert!(rt; is_failed(monitor.ask(&ask)));
-    }
-    let (policy, world, log) = monitor.into_parts();
-    assert_eq!(rt; policy.used(1), 2);
-    assert_eq!(rt; world.asks, 3);
-    assert_eq!(rt; log.len, 0);
-    Ok(())
+    assert!(rt; leaves(rt.alloc(), row, &left).unwrap_or(true));
 }

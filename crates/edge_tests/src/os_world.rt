@@ -75,14 +75,19 @@ fn written(
     Ok((number, done))
 }
 
+// A world is let go on each way out of who holds it: so a test makes one for one call alone.
+
+fn written_twice(alloc: Global, world: &mut OsWorld) -> Result<((u32, bool), (u32, bool)), Stop> {
+    let first = written(alloc, world, Mode::Write, b"written", b"a\n")?;
+    let second = written(alloc, world, Mode::Append, b"./written", b"\xff")?;
+    Ok((first, second))
+}
+
 #[test]
 fn writes_files(rt: HostRuntime) -> Result<(), Fail> {
-    let alloc = rt.alloc();
-    let mut world = OsWorld::new(rt.clone()?);
     fs::write(&rt, "written", "what was there before")?;
-    let first = written(alloc, &mut world, Mode::Write, b"written", b"a\n")?;
-    let second = written(alloc, &mut world, Mode::Append, b"./written", b"\xff")?;
-    assert_eq!(rt; (first, second), ((3, true), (4, true)));
+    let both = written_twice(rt.alloc(), &mut OsWorld::new(rt.clone()?))?;
+    assert_eq!(rt; both, ((3, true), (4, true)));
     assert_eq!(rt; fs::read(&rt, "written")?.as_slice(), b"a\n\xff".as_slice());
     fs::remove_file(&rt, "written")?;
     Ok(())
@@ -101,9 +106,8 @@ fn first_pieces(alloc: Global, world: &mut OsWorld, name: &[u8]) -> Result<[usiz
 
 #[test]
 fn reads_files_in_pieces(rt: HostRuntime) -> Result<(), Fail> {
-    let mut world = OsWorld::new(rt.clone()?);
     fs::write(&rt, "long", vec![in rt.alloc(); b'a'; 10000]?)?;
-    let sizes = first_pieces(rt.alloc(), &mut world, b"long")?;
+    let sizes = first_pieces(rt.alloc(), &mut OsWorld::new(rt.clone()?), b"long")?;
     assert_eq!(rt; sizes, [8192, 1808, 0]);
     fs::remove_file(&rt, "long")?;
     Ok(())
@@ -111,14 +115,18 @@ fn reads_files_in_pieces(rt: HostRuntime) -> Result<(), Fail> {
 
 #[test]
 fn refuses_names(rt: HostRuntime) -> Result<(), Fail> {
-    let mut world = OsWorld::new(rt.clone()?);
     for name in [
         b"".as_slice(),
         b"a\0b".as_slice(),
         b"a\xff".as_slice(),
         b"none/a".as_slice(),
     ] {
-        let number = opened(rt.alloc(), &mut world, Mode::Write, name)?;
+        let number = opened(
+            rt.alloc(),
+            &mut OsWorld::new(rt.clone()?),
+            Mode::Write,
+            name,
+        )?;
         assert_eq!(rt; number, 0, "{name:?}");
     }
     assert!(rt; fs::read(&rt, "a").is_err());
@@ -127,7 +135,6 @@ fn refuses_names(rt: HostRuntime) -> Result<(), Fail> {
 
 #[test]
 fn runs_commands(rt: HostRuntime) -> Result<(), Fail> {
-    let mut world = OsWorld::new(rt.clone()?);
     for (command, status) in [
         (b"exit 0".as_slice(), Some(0)),
         (b"exit 3".as_slice(), Some(3)),
@@ -137,7 +144,7 @@ fn runs_commands(rt: HostRuntime) -> Result<(), Fail> {
         (b"exit\x003".as_slice(), None),
         (b"echo \xff".as_slice(), None),
     ] {
-        let ended = run(rt.alloc(), &mut world, command)?;
+        let ended = run(rt.alloc(), &mut OsWorld::new(rt.clone()?), command)?;
         assert_eq!(rt; ended, status, "{command:?}");
     }
     Ok(())
@@ -152,14 +159,13 @@ fn heard(alloc: Global, world: &mut OsWorld, command: &[u8]) -> Result<(usize, O
 
 #[test]
 fn reads_commands(rt: HostRuntime) -> Result<(), Fail> {
-    let mut world = OsWorld::new(rt.clone()?);
     for (command, told) in [
         (b"echo hi; exit 3".as_slice(), (3, Some(3))),
         (b"kill -9 $$".as_slice(), (0, Some(256))),
         // a command that goes on writing ends once nobody reads
         (b"exec yes".as_slice(), (8192, Some(256))),
     ] {
-        let found = heard(rt.alloc(), &mut world, command)?;
+        let found = heard(rt.alloc(), &mut OsWorld::new(rt.clone()?), command)?;
         assert_eq!(rt; found, told, "{command:?}");
     }
     Ok(())
@@ -179,14 +185,23 @@ fn fed(
 
 #[test]
 fn feeds_commands(rt: HostRuntime) -> Result<(), Fail> {
-    let mut world = OsWorld::new(rt.clone()?);
-    let taken = fed(rt.alloc(), &mut world, b"cat >fed; exit 4", b"a\n")?;
+    let taken = fed(
+        rt.alloc(),
+        &mut OsWorld::new(rt.clone()?),
+        b"cat >fed; exit 4",
+        b"a\n",
+    )?;
     assert_eq!(rt; taken, (true, Some(4)));
     assert_eq!(rt; fs::read(&rt, "fed")?.as_slice(), b"a\n".as_slice());
     fs::remove_file(&rt, "fed")?;
     // no pipe holds as much as this, so the write comes to see that nobody reads
     let much = vec![in rt.alloc(); b'b'; 10000000]?;
-    let refused = fed(rt.alloc(), &mut world, b"exit 5", much.as_slice())?;
+    let refused = fed(
+        rt.alloc(),
+        &mut OsWorld::new(rt.clone()?),
+        b"exit 5",
+        much.as_slice(),
+    )?;
     assert_eq!(rt; refused, (false, Some(5)));
     Ok(())
 }
@@ -211,9 +226,8 @@ fn lowest_descriptor(rt: &HostRuntime) -> io::Result<i32> {
 
 #[test]
 fn leaves_no_descriptor_behind(rt: HostRuntime) -> Result<(), Fail> {
-    let mut world = OsWorld::new(rt.clone()?);
     let before = lowest_descriptor(&rt)?;
-    let ended = all_end(rt.alloc(), &mut world, 500)?;
+    let ended = all_end(rt.alloc(), &mut OsWorld::new(rt.clone()?), 500)?;
     assert_eq!(rt; (ended, lowest_descriptor(&rt)?), (true, before));
     Ok(())
 }
@@ -228,21 +242,24 @@ fn value_size(alloc: Global, world: &mut OsWorld, name: &[u8]) -> Result<Option<
 
 #[test]
 fn reads_the_environment(rt: HostRuntime) -> Result<(), Fail> {
-    let mut world = OsWorld::new(rt.clone()?);
     for name in [b"".as_slice(), b"PATH=".as_slice(), b"\xff".as_slice()] {
-        let size = value_size(rt.alloc(), &mut world, name)?;
+        let size = value_size(rt.alloc(), &mut OsWorld::new(rt.clone()?), name)?;
         assert_eq!(rt; size, None, "{name:?}");
     }
-    let size = value_size(rt.alloc(), &mut world, b"PATH")?;
+    let size = value_size(rt.alloc(), &mut OsWorld::new(rt.clone()?), b"PATH")?;
     assert_eq!(rt; size, env::var(&rt, "PATH").ok().map(|text| text.len()));
     Ok(())
 }
 
 #[test]
 fn has_standard_streams(rt: HostRuntime) -> Result<(), Fail> {
-    let mut world = OsWorld::new(rt.clone()?);
-    let output = is_put(rt.alloc(), &mut world, 1, b"")?;
-    let errors = is_put(rt.alloc(), &mut world, 2, b"told on standard error\n")?;
+    let output = is_put(rt.alloc(), &mut OsWorld::new(rt.clone()?), 1, b"")?;
+    let errors = is_put(
+        rt.alloc(),
+        &mut OsWorld::new(rt.clone()?),
+        2,
+        b"told on standard error\n",
+    )?;
     assert!(rt; output && errors);
     Ok(())
 }
