@@ -1,4 +1,5 @@
--- print, printf and `delete array [ list ]`: the items, the target, and what is done with a value that no request answers.
+-- print, printf and `delete array [ list ]`: the items, the target, and what is done with a value that no request
+-- answers.
 use Rattle.std.proofs.Common.{◌≡◌, refl, sym, ap, ◌∙◌, ℕ, ◌+◌, zero, suc, List, [], ◌∷◌, ◌++◌, length, reverse, map}
 use Rattle.std.proofs.Common.{arith}
 use Rattle.std.specs.Prelude.{Err, Option, Some, None, slice_get}

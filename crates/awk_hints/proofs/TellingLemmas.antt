@@ -1,5 +1,6 @@
 -- What is told of a token, by the kind of the token.
-use Rattle.std.proofs.Common.{◌≡◌, ◌∙◌, ◌+◌, ◌<◌, ℕ, Bool, true, false, List, [], ◌∷◌, ◌++◌, ap, sym, subst, length, get_or, take, drop, map}
+use Rattle.std.proofs.Common.{◌≡◌, ◌∙◌, ◌+◌, ◌<◌, ℕ, Bool, true, false, List, [], ◌∷◌, ◌++◌, ap, sym, subst, length}
+use Rattle.std.proofs.Common.{get_or, take, drop, map}
 use Rattle.std.specs.List.{All}
 use Rattle.std.specs.Prelude.{Option, Some, None, IfSome, codes}
 use Rattle.std.specs.Option.{option_to_list}
@@ -7,7 +8,8 @@ use Rattle.std.specs.Str.{bytes_eq}
 use Rattle.std.proofs.lemmas.List.Elements.{All-nil, All-cons, All-same, All-weaker}
 use Rattle.awk_tokens.specs.declared.kinds.TokenKind.TheVariants as kind
 use Rattle.awk_tokens.specs.declared.token.Token.{Token}
-use Rattle.awk_hints.specs.Causes.{Causes, IsNamed, as_function, is_gawk_name, is_between_numbers, is_of_name, is_of_format, is_of_pattern, names_int}
+use Rattle.awk_hints.specs.Causes.{Causes, IsNamed, as_function, is_gawk_name, is_between_numbers, is_of_name}
+use Rattle.awk_hints.specs.Causes.{is_of_format, is_of_pattern, names_int}
 use Rattle.awk_hints.specs.Hints.{AreTold, Tells, next, hint_of}
 use Rattle.awk_hints.specs.declared.hint.Hint.{Hint}
 use Rattle.awk_hints.proofs.Lists.{take_here, split_here}

@@ -261,7 +261,8 @@ module _ {V : Type 0} where
   numbers_filled d [] = refl
   numbers_filled d (e ∷ es) = ap (λ l. number_of e ∷ l) (numbers_filled d es)
 
-  -- where none is empty, any order of the places is one of the rows; and it rises where they were sorted by their numbers
+  -- where none is empty, any order of the places is one of the rows; and it rises where they were sorted by their
+  -- numbers
   pub sorted_rows : (es fs : List (Entry V)) → AllByRecursion (λ e. is_some e.1 ≡ true) es → IsPermutation es fs
       → IsPermutation (rows es) (rows fs) × (IsSortedByKey (λ e. option_map_or (λ x. x.number) e.1 0) nat_cmp fs
       → IsDistinct nat_eq (numbers (rows fs)) → AreRising (rows fs))

@@ -1,4 +1,5 @@
--- A table of texts, as contracts see it, after the calls of the map that holds it. There the keys are not the texts but have them.
+-- A table of texts, as contracts see it, after the calls of the map that holds it. There the keys are not the texts but
+-- have them.
 use Rattle.std.proofs.Common.{◌≡◌, ◌⊎◌, inl, inr, ℕ, List, [], ◌∷◌, map, Bool, true, false, cond, Some, refl, ap, sym}
 use Rattle.std.proofs.Common.{subst, ◌∙◌, if◌then◌else◌}
 use Rattle.std.proofs.lemmas.Bool.{cases_Bool}

@@ -87,7 +87,8 @@ module _ {W : Type 0} (ghosts : Ghosts W) (g : Given) (k : Kept) (row : Row) (ke
   lift_result (Ok x) on first w from to s c t p = lift_comes first w from (on x to) s c t p
   lift_result (Err h) on first w from to s c t p = lift_halted h first w from to s c t p
 
--- A task of the streams is one of the whole: where it owes something of what the store alone stands for, and so of all states.
+-- A task of the streams is one of the whole: where it owes something of what the store alone stands for, and so of all
+-- states.
 pub lifted_at : {W A : Type 0} {ghosts : Ghosts W} (g : Given) (k : Kept)
     {p : Piece} {to : A → List Piece → List Piece} {old new : Table} {w w' : W} {result : Result A Halt} →
     ((row : Row) → length k.cells ≡ length (names_in g) → Sound (names_in g)

@@ -1,4 +1,5 @@
--- A table of texts, as contracts see it, after the calls of the map that holds it. There the keys are not the texts but have them.
+-- A table of texts, as contracts see it, after the calls of the map that holds it. There the keys are not the texts but
+-- have them.
 use Rattle.std.proofs.Common.{◌≡◌, ℕ, List, [], ◌∷◌, ◌++◌, map, Bool, true, false, cond, None, Some, refl, ap}
 use Rattle.std.proofs.Common.{if◌then◌else◌}
 use Rattle.std.specs.Map.{lookup, set_value}

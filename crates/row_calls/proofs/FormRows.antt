@@ -16,7 +16,8 @@ use Rattle.awk_machine.specs.State.{Given}
 use Rattle.row_calls.proofs.Playing.{replayed}
 use Rattle.row_calls.proofs.Scripts.{program_of, rules}
 
--- parameters that are arrays, names that may be assigned, whether ENVIRON is named, the setup, the bound, and the script
+-- parameters that are arrays, names that may be assigned, whether ENVIRON is named, the setup, the bound, and the
+-- script
 abbrev given : List (Text × Text) → List Text → Bool → List Text → List Text → List (Text × Text) → Option Text → ℕ
     → Text → Given
 given arrays names environ operands environment assigns separator bound source = record {

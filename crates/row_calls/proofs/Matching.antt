@@ -1,4 +1,5 @@
--- Patterns read and matched by computing, for the rows of the definition alone: what is claimed of patterns is in their own crate.
+-- Patterns read and matched by computing, for the rows of the definition alone: what is claimed of patterns is in their
+-- own crate.
 use Rattle.std.specs.Prelude.{ℕ, zero, suc, ◌+◌, ◌-◌, ◌==◌, nat_lt, nat_le, ◌&&◌, Bool, true, false, if◌then◌else◌}
 use Rattle.std.specs.Prelude.{List, [], ◌∷◌, length, max, slice_index, Option, Some, None}
 use Rattle.std.specs.List.{flat_map, list_any}
