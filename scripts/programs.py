@@ -26,7 +26,7 @@ from pathlib import Path
 BENCH = Path(__file__).resolve().parent / "bench"
 PEERS = ("gawk", "mawk")
 WORDS = "the login of reports and error user system quick brown fox jumps lazy dog Pipeline Teach host".split()
-RIGHTS = (("read", "/**"), ("write", "/**"), ("append", "/**"), ("run", "**"), ("env", "*"), ("assign", "*"))
+RIGHTS = (("read", "/**"), ("write", "out.*"))
 
 
 def made(scale: int) -> dict[str, list[str]]:
