@@ -42,7 +42,8 @@ number text = number_by (without_blanks text) (scan (without_sign (without_blank
 -- the text is one numeral with blanks behind, and there is a number that it stands for
 abbrev pub numeric_by : List ℕ → List ℕ → Parts → Option Number
 numeric_by text rest numeral =
-    if has_digits numeral && list_all is_blank (drop numeral.len rest) then result_ok (value_of (has_minus text) numeral)
+    if has_digits numeral && list_all is_blank (drop numeral.len rest)
+    then result_ok (value_of (has_minus text) numeral)
     else None
 
 abbrev pub looks_numeric : List ℕ → Option Number

@@ -1,5 +1,6 @@
 -- Whose the lines of several texts are that are one script.
-use Rattle.std.specs.Prelude.{◌≡◌, ◌==◌, ℕ, ◌+◌, ◌-◌, ◌≤◌, List, [], ◌∷◌, ◌++◌, map, codes, count_by, Option, Some, string_bytes}
+use Rattle.std.specs.Prelude.{◌≡◌, ◌==◌, ℕ, ◌+◌, ◌-◌, ◌≤◌, List, [], ◌∷◌, ◌++◌, map, codes, count_by, Option}
+use Rattle.std.specs.Prelude.{Some, string_bytes}
 use Rattle.std.specs.Fmt.{decimal}
 use Rattle.awk_text.specs.Places.{place_text}
 use Rattle.awk_text.specs.Quoted.{quoted}

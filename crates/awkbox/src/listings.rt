@@ -66,7 +66,8 @@ pub(crate) fn listing_of(
     base: Option<&[u8]>,
     script: &[u8],
 ) -> Result<Listing, ListingRefusal>
-    ensures policy { IfOk result (λ listing. WrittenUnder (option_map (λ b. b.now) base.entry) policy.now listing.policy) }
+    ensures policy { IfOk result
+        (λ listing. WrittenUnder (option_map (λ b. b.now) base.entry) policy.now listing.policy) }
     ensures sites { IfOk result (λ listing. IsListed script.now listing.sites.items) }
     ensures refused { IfErr result (IsCheckRefused (option_map (λ b. b.now) base.entry) policy.now script.now) }
 {

@@ -357,7 +357,8 @@ fn proposed(
     ensures ok { IfOk result
         (λ text. IsText (option_map (λ s. s.now) base.entry)
         (with_gained beginning.now.policy (grants_from beginning.now.policy [] wishes.now)) text.items) }
-    ensures refused { IfErr result (IsGainRefused (option_map (λ s. s.now) base.entry) beginning.now.policy wishes.now) }
+    ensures refused { IfErr result
+        (IsGainRefused (option_map (λ s. s.now) base.entry) beginning.now.policy wishes.now) }
 {
     match Gains::of(alloc, &beginning.policy, wishes)? {
         Some(gains) => printed(alloc, base, beginning, &gains),

@@ -220,8 +220,8 @@ fn a_monitor_that_stops_at_a_denial_fails_the_row(rt: HostRuntime) -> Result<(),
     Ok(())
 }
 
-// What a monitor is made of, and what it is asked, each with its answer. Where `again` is set, an ask that had no memory
-// is asked once more, if it changed nothing.
+// What a monitor is made of, and what it is asked, each with its answer. Where `again` is set, an ask that had no
+// memory is asked once more, if it changed nothing.
 #[derive(Drop)]
 struct Row<'a> {
     policy: &'a [u8],
