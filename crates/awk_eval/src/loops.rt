@@ -96,7 +96,7 @@ fn turns<W: World, E: Evaluates<W>>(
         }
         behind(cx, test, inner, after, on, run, world)?;
     }
-    Err(Halt::Memory)
+    Err(Halt::NEVER)
 }
 
 /// `do body while ( test )`

@@ -1,3 +1,4 @@
 pub mod Loops
+pub mod NoLvalue
 pub mod Steps
 pub mod Stops

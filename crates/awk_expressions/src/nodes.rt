@@ -350,16 +350,5 @@ pub fn or_of(alloc: Global, left: Boxed<Expr>, more: Items<Expr>) -> Result<Boxe
 pub fn is_lvalue(x: &Expr) -> bool
     ensures { result ≡ looks.is_lvalue (view x.now) }
 {
-    match x {
-        Expr::Name(_) | Expr::Element(_, _) | Expr::Field(_, _) => true,
-        Expr::Number(_, _) | Expr::Quoted(_, _) | Expr::Pattern(_, _) | Expr::Paren(_, _) => false,
-        Expr::Call(_, _) | Expr::Builtin(_, _, _) | Expr::Length(_) => false,
-        Expr::Split(_, _, _, _) | Expr::Substitute(_, _, _, _, _) => false,
-        Expr::Getline(_, _, _) | Expr::Before(_, _, _) | Expr::After(_, _, _) => false,
-        Expr::Signed(_, _, _) | Expr::Power(_, _, _) | Expr::Product(_, _) => false,
-        Expr::Sum(_, _) | Expr::Concat(_, _) | Expr::Pipe(_, _) => false,
-        Expr::Compare(_, _, _, _) | Expr::Match(_, _, _, _) => false,
-        Expr::Group(_, _, _) | Expr::In(_, _) | Expr::And(_, _) | Expr::Or(_, _) => false,
-        Expr::Choice(_, _, _) | Expr::Assign(_, _, _, _) => false,
-    }
+    matches!(x, Expr::Name(_) | Expr::Element(_, _) | Expr::Field(_, _))
 }

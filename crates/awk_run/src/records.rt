@@ -70,5 +70,5 @@ pub fn records<W: World>(cx: &Context<'_>, run: &mut Run, world: &mut W) -> Resu
             return Ok(());
         }
     }
-    Err(Halt::Memory)
+    Err(Halt::NEVER)
 }

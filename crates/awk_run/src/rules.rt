@@ -104,7 +104,7 @@ fn within<W: World>(
             return body(cx, action, MOST_UNITS, run, world);
         }
     }
-    Err(Halt::Memory)
+    Err(Halt::NEVER)
 }
 
 /// The rule at this place among the rules: its action is done where its pattern chooses the record.

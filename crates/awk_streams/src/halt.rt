@@ -25,6 +25,9 @@ pub enum Halt {
 }
 
 impl Halt {
+    /// How a loop ends that has more turns than any run: none comes to it.
+    pub const NEVER: Halt = Halt::Memory;
+
     /// How a part ends whose request at the place was not answered. Takes no memory.
     pub fn by(place: Place, stop: Stop) -> Halt
         ensures { result ≡ halt_by place stop }
