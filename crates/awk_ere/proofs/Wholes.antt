@@ -107,7 +107,7 @@ may_take (spec.times least most factor) os (frame b p None) h = absurd (cc)
 may_take (spec.times least most factor) os (frame b p (Some q)) h =
     record { to = (os, frame b p (Some (repeats q least most factor))); is = refl; depth = refl; repeatable = refl }
 may_take spec.opening os f h = record { to = (f ∷ os, fresh); is = refl; depth = omega arith; repeatable = refl }
-may_take spec.closing [] f h = absurd (let e : nat_lt 0 0 ≡ false = grind (arith, nat_tests) in cc)
+may_take spec.closing [] f h = absurd (cc)
 may_take spec.closing (o ∷ os) f h = record {
   to = (os, with_last o (finished f));
   is = refl;
