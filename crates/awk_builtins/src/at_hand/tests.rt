@@ -8,6 +8,7 @@ ghost use Rattle.awk_program.specs.Program.{expressions_of};
 ghost use Rattle.awk_program.specs.View.{Names, variable_of, view, view_ere};
 ghost use Rattle.awk_store.specs.Acts.{Acts};
 ghost use Rattle.awk_streams.specs.Tables.{Table};
+ghost use Rattle.awk_text.specs.Lents.{lent_value};
 ghost use Rattle.awk_text.specs.declared.value.Value.TheVariants as v;
 ghost use Rattle.awk_text.specs.declared.value.Value.{Value as Val};
 ghost use Rattle.std.specs.Prelude.{IfSome, map, ◌∷◌};
@@ -158,6 +159,24 @@ fn truth_there(store: &Store, e: &Expr) -> Option<bool>
     }
 }
 
+/// The number of a constant, or of a variable that holds one, as a value.
+#[inline(always)]
+fn plain_value<'a>(store: &Store, e: &Expr) -> Option<Lent<'a>>
+    ensures { IfSome result (λ v. IsThere (λ names. view names e.now) store.now (lent_value v)) }
+{
+    let number = plain_number(store, e)?;
+    Some(Lent::Num(number))
+}
+
+/// Whether a constant is true, or a variable that holds a number: that is told without the value of a text between.
+#[inline(always)]
+fn plain_is_true(store: &Store, e: &Expr) -> Option<bool>
+    ensures { IfSome result (λ b. HasTruth (λ names. view names e.now) store.now b) }
+{
+    let value = plain_value(store, e)?;
+    Some(value.truth())
+}
+
 /// Whether an expression is true, where its value is there, or it is a comparison of two such. An ERE by itself never
 /// is: it is told from the others first.
 #[inline(never)]
@@ -169,6 +188,9 @@ pub fn truth_at_hand(store: &Store, e: &Expr) -> Option<bool>
     }
     if let Expr::Compare(how, x, y) = e {
         return compared_at_hand(store, *how, x.get(), y.get());
+    }
+    if let Some(holds) = plain_is_true(store, e) {
+        return Some(holds);
     }
     truth_there(store, e)
 }

@@ -15,3 +15,6 @@ returns-in-Compare c =
       there = λ g t. rw (c.in-Compare.is, view-Compare)
           (rw (c.get.ensures, c.get-in-Compare.ensures) at (h.there g t));
     }) c.compared_at_hand.ensures
+
+pub returns-in-Some : goal.returns-in-Some
+returns-in-Some c = c.in-Some.ensures
