@@ -4,23 +4,17 @@
 //! world.
 //!
 //! Forms whose parts are at hand, as variables, fields and constants are, are done without a move of the machine of
-//! plain awk for each part: `at_hand`, `done`, `growing`, `items`, `keyed`, `matching` and `splitting`.
+//! plain awk for each part: `at_hand`.
 #![tactic(auto)]
 
 pub mod arrays;
 pub mod at_hand;
 pub mod cache;
 pub mod chains;
-pub mod done;
 pub mod functions;
-pub mod growing;
-pub mod items;
-pub mod keyed;
 pub mod keys;
 pub mod line;
-pub mod longer;
 pub mod made;
-pub mod matching;
 pub mod operands;
 pub mod operators;
 pub mod patterns;
@@ -28,4 +22,3 @@ pub mod printing;
 pub mod replacements;
 pub mod searches;
 pub mod splits;
-pub mod splitting;

@@ -12,7 +12,7 @@ ghost use Rattle.awk_text.specs.declared.value.Value.TheVariants as v;
 ghost use Rattle.awk_forms.specs.Runs.{Does, whole_of};
 
 use crate::statements::body;
-use awk_builtins::at_hand::number_there;
+use awk_builtins::at_hand::values::number_there;
 use awk_forms::context::{Context, Run};
 use awk_forms::evaluates::Evaluates;
 use awk_program::{Argument, Expr};

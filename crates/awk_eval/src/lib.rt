@@ -6,6 +6,7 @@
 #![tactic(auto)]
 
 mod calls;
+mod effects;
 mod loops;
 mod output;
 mod statements;

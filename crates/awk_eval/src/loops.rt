@@ -10,9 +10,10 @@ ghost use Rattle.awk_streams.specs.Flows.{flows};
 ghost use Rattle.awk_eval.specs.Loops.{loop_of, tested, to_test};
 ghost use Rattle.awk_forms.specs.Runs.{Does, whole_of};
 
+use crate::effects::effect;
 use awk_forms::context::{Context, Run};
 use awk_forms::evaluates::Evaluates;
-use awk_forms::tests::{effect, truth_of};
+use awk_forms::tests::truth_of;
 use awk_lib::key::Key;
 use awk_program::{Expr, Statement, Variable};
 use awk_store::variables::set_variable;

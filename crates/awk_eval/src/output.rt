@@ -8,10 +8,10 @@ ghost use Rattle.awk_store.specs.Wholes.{names_in};
 ghost use Rattle.awk_streams.specs.Flows.{flows};
 ghost use Rattle.awk_forms.specs.Runs.{Does, whole_of};
 
-use awk_builtins::items::{printed_at_hand, redirected_at_hand, split_for_items};
+use awk_builtins::at_hand::records::split_for;
+use awk_builtins::at_hand::texts::{printed_at_hand, redirected_at_hand, split_for_items};
 use awk_builtins::made::append;
 use awk_builtins::printing::{formatted_for, formatted_line, printed_for, printed_line};
-use awk_builtins::splitting::split_for;
 use awk_forms::context::{Context, Run};
 use awk_forms::evaluates::Evaluates;
 use awk_forms::lists::fill;

@@ -10,6 +10,7 @@ ghost use Rattle.awk_store.specs.Wholes.{names_in};
 ghost use Rattle.awk_streams.specs.Flows.{flows};
 ghost use Rattle.awk_forms.specs.Runs.{Does, whole_of};
 
+use crate::effects::effect;
 use crate::loops::{first_then, over_keys, turn_first, while_loop};
 use crate::output::{print, printf};
 use awk_builtins::arrays::remove_all;
@@ -17,7 +18,7 @@ use awk_builtins::keys::remove;
 use awk_forms::context::{Context, Run};
 use awk_forms::evaluates::Evaluates;
 use awk_forms::lists::fill;
-use awk_forms::tests::{effect, truth_of};
+use awk_forms::tests::truth_of;
 use awk_forms::units::units_of_statement;
 use awk_input::skipping::next_file;
 use awk_program::{Expr, Jump, Statement, Variable};

@@ -12,7 +12,7 @@ ghost use Rattle.awk_store.specs.Wholes.{names_in};
 use crate::calls::call;
 use crate::statements;
 use crate::statements::{block, either, perform, plain, when};
-use awk_builtins::at_hand::{number_there, other_at_hand};
+use awk_builtins::at_hand::values::{number_there, other_at_hand};
 use awk_forms::context::{Context, Run};
 use awk_forms::evaluates::Evaluates;
 use awk_forms::expressions::{chain, choose, evaluate};

@@ -7,8 +7,7 @@ ghost use Rattle.awk_program.specs.Program as p;
 ghost use Rattle.awk_program.specs.Program.{expressions_of, terms_of, joins_of};
 ghost use Rattle.awk_program.specs.View.{view, view_term, view_joined, variable_of};
 ghost use Rattle.awk_store.specs.Wholes.{names_in};
-ghost use Rattle.awk_forms.specs.Runs.{Does, Tells, IsNumberOf, IsTruthOf, IsUnwanted, whole_of};
-ghost use Rattle.awk_machine.specs.Operators.{of_truth};
+ghost use Rattle.awk_forms.specs.Runs.{Does, whole_of};
 
 use crate::context::{Context, Run};
 use crate::evaluates::Evaluates;
@@ -20,20 +19,16 @@ use crate::sources::matches;
 use crate::targets::{assign, change, increment, read_target};
 use crate::tests::{number, truth_of};
 use awk_builtins::arrays::count;
-use awk_builtins::at_hand::{MOST_LEVELS, at_hand, number_at_hand, truth_at_hand};
+use awk_builtins::at_hand::texts::concat_at_hand;
 use awk_builtins::chains::{join, members, operated};
-use awk_builtins::done::{concat_at_hand, done_at_once};
 use awk_builtins::made::owned;
 use awk_builtins::operands::{Binary, Unary};
-use awk_builtins::operators::{compared, compared_lent, truth_value};
+use awk_builtins::operators::truth_value;
 use awk_builtins::patterns::matched_record;
-use awk_builtins::splitting::{done_once_split, truth_once_split};
-use awk_program::{Comparison, Expr, Joined, Term, Variable};
+use awk_program::{Expr, Joined, Term, Variable};
 use awk_streams::halt::Halt;
-use awk_text::fault::Fault;
-use awk_text::lent::Lent;
 use awk_text::place::Place;
-use awk_text::value::{Value, number_of, truth};
+use awk_text::value::{Value, truth};
 use box_world::world::World;
 
 /// The value of an expression, once room on the stack was taken for its parts.

@@ -14,7 +14,7 @@ use crate::context::{Context, Run};
 use crate::evaluates::Evaluates;
 use crate::targets::put_variable;
 use crate::units::units_of;
-use awk_builtins::longer::{join_behind, set_behind, text_to_grow};
+use awk_builtins::at_hand::growth::{join_behind, set_behind, text_to_grow};
 use awk_program::{Expr, Joined, Variable};
 use awk_streams::halt::Halt;
 use awk_text::octets::Octets;

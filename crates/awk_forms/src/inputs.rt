@@ -10,7 +10,8 @@ ghost use Rattle.awk_forms.specs.Runs.{Does, whole_of};
 use crate::context::{Context, Run};
 use crate::evaluates::Evaluates;
 use crate::targets::target_of;
-use awk_builtins::at_hand::{MOST_LEVELS, at_hand, spot_at_hand};
+use awk_builtins::at_hand::elements::spot_at_hand;
+use awk_builtins::at_hand::values::{MOST_LEVELS, at_hand};
 use awk_input::getline::{
     command_record, file_record, getline_pipe, set_from_command, set_from_file,
 };

@@ -12,10 +12,10 @@ ghost use Rattle.awk_forms.specs.Runs.{Does, whole_of};
 
 use crate::context::{Context, Run};
 use crate::evaluates::Evaluates;
-use awk_builtins::matching::matched_at_hand;
+use awk_builtins::at_hand::records::split_for;
+use awk_builtins::at_hand::tests::matched_at_hand;
 use awk_builtins::patterns;
 use awk_builtins::patterns::PatternValue;
-use awk_builtins::splitting::split_for;
 use awk_program::{Expr, Pattern};
 use awk_streams::halt::Halt;
 use awk_text::place::Place;

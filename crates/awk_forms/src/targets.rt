@@ -18,9 +18,9 @@ use crate::context::{Context, Run};
 use crate::evaluates::Evaluates;
 use crate::growing::put_longer;
 use crate::lists::element;
-use awk_builtins::done::stepped_variable;
-use awk_builtins::growing::assigned;
-use awk_builtins::keyed::{element_at_hand, read_at_key, step_at_key};
+use awk_builtins::at_hand::assignments::stepped_variable;
+use awk_builtins::at_hand::elements::{element_at_hand, read_at_key, step_at_key};
+use awk_builtins::at_hand::growth::assigned;
 use awk_builtins::keys::field_number;
 use awk_builtins::made::{computed_at, stepped_at};
 use awk_program::{Expr, Operator, Step, StepValue, Target, Variable};
@@ -151,7 +151,7 @@ pub fn read_target<W: World, E: Evaluates<W>>(
 
 /// `variable = value`, whose value nothing wants.
 #[inline(always)]
-pub(crate) fn put_variable<W: World, E: Evaluates<W>>(
+pub fn put_variable<W: World, E: Evaluates<W>>(
     cx: &Context<'_>,
     place: Place,
     variable: Variable,

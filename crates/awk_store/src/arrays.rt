@@ -150,6 +150,29 @@ fn put_in_cells(cells: &mut Vec<Cell>, slot: usize, key: &[u8], value: Value) ->
     }
 }
 
+/// Removes an element of the array at a slot, if it is there. Where there is no array nothing changes.
+fn remove_in_cells(cells: &mut Vec<Cell>, slot: usize, key: &[u8])
+    ensures { cells.new.items
+        ≡ change_at (given_array (without (unwrap_or (listed (slice_get cells.old.items slot)) []) key.now))
+        cells.old.items slot }
+{
+    match cells.get_mut(slot) {
+        Some(cell) => cell.remove(key),
+        None => (),
+    }
+}
+
+/// The same among the arrays that calls have made.
+fn remove_made(made: &mut Vec<Array<Value>>, place: usize, key: &[u8])
+    ensures { made.new.items
+        ≡ slice_set made.old.items place (without (unwrap_or (slice_get made.old.items place) []) key.now) }
+{
+    match made.get_mut(place) {
+        Some(elements) => elements.remove(key),
+        None => (),
+    }
+}
+
 /// Adds to the number that an element of the array at a slot holds, where it holds one, and answers whether it did.
 fn add_in_cells(cells: &mut Vec<Cell>, slot: usize, key: &[u8], by: i64) -> bool
     ensures done { result ≡ true →
@@ -484,10 +507,11 @@ impl Store {
     pub fn remove(&mut self, name: Variable, key: &[u8])
         ensures { self.new ≡ with_array (reference self.old name) (without (array self.old name) key.now) self.old }
     {
-        let at = self.reference(name);
-        let mut elements = self.replace(at, Array::with_seed(self.alloc, self.seed));
-        elements.remove(key);
-        self.replace(at, elements);
+        match self.reference(name) {
+            Reference::Shared(slot) => remove_in_cells(&mut self.cells, slot as usize, key),
+            Reference::Made(place) => remove_made(&mut self.made, place as usize, key),
+            Reference::Nothing => (),
+        }
     }
 
     /// Removes all elements. An empty array takes the place of the old one, so that this takes no longer than to let go

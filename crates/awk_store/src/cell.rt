@@ -4,7 +4,7 @@ ghost use Rattle.std.specs.Prelude.{IfOk, IfErr, OnOk, IsOkUnless};
 ghost use Rattle.std.specs.Fmt.{decimal};
 ghost use Rattle.std.specs.Option.{option_copied};
 ghost use Rattle.awk_text.specs.Arithmetic.{add};
-ghost use Rattle.awk_lib.specs.Arrays.{element};
+ghost use Rattle.awk_lib.specs.Arrays.{element, without};
 ghost use Rattle.awk_machine.specs.Begins.{first_value};
 ghost use Rattle.awk_store.specs.Changes.{Adds};
 ghost use Rattle.awk_store.specs.Filled.{Fills};
@@ -142,6 +142,16 @@ impl Cell {
         match self {
             Cell::Value(_) => Ok(()),
             Cell::Array(array) => array.set(key, value),
+        }
+    }
+
+    /// Removes an element of an array, if it is there. A value stays as it is.
+    pub(crate) fn remove(&mut self, key: &[u8])
+        ensures { self.new ≡ given_array (without (unwrap_or (listed (Some self.old)) []) key.now) self.old }
+    {
+        match self {
+            Cell::Value(_) => (),
+            Cell::Array(elements) => elements.remove(key),
         }
     }
 

@@ -94,6 +94,7 @@ impl Passed {
     /// Adds a value behind the others.
     ///
     /// Fails where memory is refused; then nothing was added.
+    #[inline(always)]
     pub fn push(&mut self, value: Value) -> Result<(), Memory>
         ensures ok { OnOk result (self.new ≡ self.old ++ value ∷ []) }
         ensures err { OnErr result (self.new ≡ self.old) }

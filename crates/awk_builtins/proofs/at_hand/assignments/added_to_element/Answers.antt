@@ -1,0 +1,22 @@
+use Rattle.std.proofs.Common.{map, rules, w64}
+use Rattle.std.proofs.lemmas.Int.{to_z-of_z}
+use Rattle.awk_program.specs.Program.{expressions_of}
+use Rattle.awk_program.specs.View.{variable_of, view}
+use Rattle.awk_program.specs.declared.operators.Operator.TheVariants as operator
+use Rattle.awk_store.specs.Wholes.{names_in}
+use Rattle.awk_text.specs.declared.value.Value.TheVariants as v
+use Rattle.awk_builtins.proofs.Storing.{changes_element}
+use Rattle.awk_builtins.proofs.at_hand.assignments.added_to_element.Goals as goal
+
+pub returns-clause-done : goal.returns-clause-done
+returns-clause-done c = λ yes place at_name.
+    let h = c.in-Some.ensures in
+    let k = c.added_at.ensures.done yes in
+    let a = rw (to_z-of_z w64 c.in-Some.operand (search rules)) at k.adds in
+    record {
+      val = v.Num a.1;
+      gives = λ g t. changes_element g (c.args.store.now, t) c.added_at.new.store place at_name c.args.array
+          (expressions_of (map (view (names_in g)) c.args.keys.now)) k.key
+          (k.is g t at_name (variable_of (names_in g) c.args.array)) a.4.0 a.0 a.1 a.2 a.4.1 a.4.2 operator.Add
+          (view (names_in g) c.args.x.now) h.val c.in-Some.operand (h.there g t) h.is a.3;
+    }

@@ -1,0 +1,15 @@
+use Rattle.std.proofs.Common.{◌∙◌, ap, ◌++◌}
+use Rattle.awk_text.specs.Values.{text_of}
+use Rattle.awk_text.specs.declared.value.Value.TheVariants as v
+use Rattle.awk_store.specs.Changes.{with_value}
+use Rattle.awk_store.proofs.Cells.{ok_so, value_twice}
+use Rattle.awk_builtins.proofs.at_hand.growth.grow.Goals as goal
+
+pub returns-clause-ok : goal.returns-clause-ok
+returns-clause-ok c =
+    let whole = v.Text (c.in-Ok.text ++ c.args.more.now) in
+    ok_so c.set_longer.result c.set_longer.ensures.ok
+    (λ same. same ∙ ap (with_value c.args.to whole) c.replace_value.ensures.after ∙ value_twice c.args.to v.Unset whole
+    c.args.store.now
+    ∙ ap (λ text. with_value c.args.to (v.Text (text ++ c.args.more.now)) c.args.store.now)
+    (c.in-Ok.ensures ∙ ap text_of c.replace_value.ensures.value))

@@ -1,0 +1,22 @@
+use Rattle.std.proofs.Common.{◌≡◌, map}
+use Rattle.awk_streams.specs.Tables.{Table}
+use Rattle.awk_machine.specs.Forms.{value}
+use Rattle.awk_machine.specs.State.{Given}
+use Rattle.awk_program.specs.Program as p
+use Rattle.awk_program.specs.Program.{expressions_of}
+use Rattle.awk_program.specs.View.{view}
+use Rattle.awk_store.specs.Acts.{Passes}
+use Rattle.awk_store.specs.Wholes.{names_in}
+use Rattle.awk_text.specs.Values.{truth}
+use Rattle.awk_text.specs.declared.value.Value.{Value}
+use Rattle.awk_builtins.proofs.Truths.{ands}
+use Rattle.awk_builtins.proofs.at_hand.tests.all_are_true.Given as goal
+
+abbrev pub invariant-loop-y : goal.invariant-loop-y
+invariant-loop-y l = record {
+  val : Value;
+  is : l.last ≡ truth val;
+  along : (g : Given) (t : Table)
+      → Passes g (value (p.and (view (names_in g) l.x) (expressions_of (map (view (names_in g)) l.xs)))) (l.store, t)
+      (ands g (l.store, t) l.xs l.y-index val) (l.store, t);
+}

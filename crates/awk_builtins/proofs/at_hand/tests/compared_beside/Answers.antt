@@ -1,0 +1,21 @@
+use Rattle.std.proofs.Common.{rules, subst, sym, w64}
+use Rattle.std.proofs.lemmas.Int.{to_z-of_z}
+use Rattle.awk_text.specs.Lents.{lent_value}
+use Rattle.awk_machine.specs.Operators.{of_truth}
+use Rattle.awk_program.specs.View.{view}
+use Rattle.awk_store.specs.Wholes.{names_in}
+use Rattle.awk_text.specs.declared.value.Value.TheVariants as v
+use Rattle.awk_builtins.specs.AtHand.{IsThere}
+use Rattle.awk_builtins.proofs.AtHand.{comparison_there, truth_back}
+use Rattle.awk_builtins.proofs.at_hand.tests.compared_beside.Goals as goal
+
+pub returns : goal.returns
+returns c = λ x left.
+    let left' = subst (λ n. IsThere x c.args.store.now (v.Num n)) (sym (to_z-of_z w64 c.args.left (search rules))) left
+    in
+    record {
+      val = of_truth c.compared_lent.result;
+      is = truth_back c.compared_lent.result;
+      there = λ g t. rw c.compared_lent.ensures (comparison_there g (c.args.store.now, t) c.args.how (x (names_in g))
+          (view (names_in g) c.args.y.now) _ (lent_value c.in_ok-right.right) (left' g t) (c.in_ok-right.ensures g t));
+    }

@@ -1,4 +1,0 @@
-use Rattle.awk_builtins.proofs.done.added_by.Goals as goal
-
-pub returns-in-Add-clause-done : goal.returns-in-Add-clause-done
-returns-in-Add-clause-done c = λ yes place at_name. rw c.in-Add.is (c.added_to_element.ensures.done yes place at_name)

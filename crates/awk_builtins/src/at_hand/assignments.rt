@@ -1,0 +1,294 @@
+// Assignments that are done at once: what they need is at hand, and their value is not wanted.
+ghost use Rattle.awk_builtins.specs.AtHand.{IsDone};
+ghost use Rattle.awk_machine.specs.Expressions.{either};
+ghost use Rattle.awk_machine.specs.Forms.{value};
+ghost use Rattle.awk_machine.specs.Operators as machine;
+ghost use Rattle.awk_machine.specs.Pieces.{Piece, give};
+ghost use Rattle.awk_machine.specs.State.{Given};
+ghost use Rattle.awk_program.specs.Program as p;
+ghost use Rattle.awk_program.specs.Program.{expressions_of};
+ghost use Rattle.awk_program.specs.View.{variable_of, view, view_target};
+ghost use Rattle.awk_program.specs.declared.operators.StepValue.{StepValue as Which};
+ghost use Rattle.awk_store.specs.Acts.{Acts, Passes};
+ghost use Rattle.awk_store.specs.Wholes.{names_in};
+ghost use Rattle.awk_streams.specs.Tables.{Table};
+ghost use Rattle.awk_text.specs.Arithmetic.{add};
+ghost use Rattle.std.specs.Prelude.{ℤ, IfSome, None, false, map, true, ◌∷◌, ◌≡◌};
+
+use crate::at_hand::elements::{added_at, key_at_hand, number_of_key, put_at_number};
+use crate::at_hand::records::{is_keyed_by_field, is_unsplit, split_record, wants_split};
+use crate::at_hand::tests::chosen;
+use crate::at_hand::values::{MOST_LEVELS, number_at_hand, number_kept, value_at_hand};
+use crate::line::Line;
+use crate::operators::{operation, stepped};
+use awk_program::{Expr, Operator, Step, Target, Variable};
+use awk_store::{Store, is_nf};
+use awk_streams::halt::Halt;
+use awk_text::place::Place;
+use awk_text::value::Value;
+use std::alloc::Global;
+
+/// `variable = value`
+#[inline(always)]
+fn assigned_variable(alloc: Global, store: &mut Store, variable: Variable, x: &Expr) -> bool
+    ensures done { result ≡ true → (place : Place) →
+        IsDone (λ names. p.assign place (p.variable (variable_of names variable)) (view names x.now)) store.old
+        store.new }
+    ensures not_done { result ≡ false → store.new ≡ store.old }
+{
+    if is_nf(variable) {
+        return false;
+    }
+    let Some(value) = value_at_hand(alloc, store, chosen(store, x)) else {
+        return false;
+    };
+    store.set(variable, value);
+    true
+}
+
+/// `array [ key ] = value`
+#[inline(never)]
+fn assigned_element(
+    alloc: Global,
+    store: &mut Store,
+    line: &mut Line,
+    array: Variable,
+    keys: &[Expr],
+    x: &Expr,
+) -> bool
+    ensures done { result ≡ true → (place at_name : Place) →
+        IsDone (λ names. p.assign place
+        (p.element at_name (variable_of names array) (expressions_of (map (view names) keys.now))) (view names x.now))
+        store.old store.new }
+    ensures not_done { result ≡ false → store.new ≡ store.old }
+{
+    let Some(value) = value_at_hand(alloc, store, chosen(store, x)) else {
+        return false;
+    };
+    if let Some(number) = number_of_key(store, keys) {
+        return put_at_number(store, array, number, value);
+    }
+    let Some(key) = key_at_hand(store, line, keys) else {
+        return false;
+    };
+    match store.put(array, key, value) {
+        Ok(()) => true,
+        Err(_) => false,
+    }
+}
+
+/// `target = value`. It stands out of line, as the others do that are told apart first: so a step has a small frame.
+#[inline(never)]
+fn assigned(
+    alloc: Global,
+    store: &mut Store,
+    line: &mut Line,
+    target: &Target<Expr>,
+    x: &Expr,
+) -> bool
+    ensures done { result ≡ true → (place : Place) →
+        IsDone (λ names. p.assign place (view_target names target.now) (view names x.now)) store.old store.new }
+    ensures not_done { result ≡ false → store.new ≡ store.old }
+{
+    if let Target::Variable(variable) = target {
+        return assigned_variable(alloc, store, *variable, x);
+    }
+    let Target::Element(_, array, keys) = target else {
+        return false;
+    };
+    assigned_element(alloc, store, line, *array, keys.as_slice(), x)
+}
+
+/// `variable += number`, and with the other operators.
+#[inline(always)]
+fn changed_variable(store: &mut Store, how: Operator, variable: Variable, x: &Expr) -> bool
+    ensures done { result ≡ true → (place : Place) →
+        IsDone (λ names. p.change place how (p.variable (variable_of names variable)) (view names x.now)) store.old
+        store.new }
+    ensures not_done { result ≡ false → store.new ≡ store.old }
+{
+    let Some(operand) = number_at_hand(store, x, MOST_LEVELS) else {
+        return false;
+    };
+    let Some(old) = number_kept(store, variable) else {
+        return false;
+    };
+    let Ok(new) = operation(how, old, operand) else {
+        return false;
+    };
+    store.set(variable, Value::Num(new));
+    true
+}
+
+/// `array [ key ] += number`
+#[inline(always)]
+fn added_to_element(
+    store: &mut Store,
+    line: &mut Line,
+    array: Variable,
+    keys: &[Expr],
+    x: &Expr,
+) -> bool
+    ensures done { result ≡ true → (place at_name : Place) →
+        IsDone (λ names. p.change place Operator.Add
+        (p.element at_name (variable_of names array) (expressions_of (map (view names) keys.now))) (view names x.now))
+        store.old store.new }
+    ensures not_done { result ≡ false → store.new ≡ store.old }
+{
+    let Some(operand) = number_at_hand(store, x, MOST_LEVELS) else {
+        return false;
+    };
+    added_at(store, line, array, keys, operand)
+}
+
+/// `array [ key ] += number`; with the other operators nothing is done.
+fn added_by(
+    store: &mut Store,
+    line: &mut Line,
+    how: Operator,
+    array: Variable,
+    keys: &[Expr],
+    x: &Expr,
+) -> bool
+    ensures done { result ≡ true → (place at_name : Place) →
+        IsDone (λ names. p.change place how
+        (p.element at_name (variable_of names array) (expressions_of (map (view names) keys.now))) (view names x.now))
+        store.old store.new }
+    ensures not_done { result ≡ false → store.new ≡ store.old }
+{
+    match how {
+        Operator::Add => added_to_element(store, line, array, keys, x),
+        _ => false,
+    }
+}
+
+/// `target += number`, and of a variable with the other operators.
+#[inline(never)]
+fn changed(
+    store: &mut Store,
+    line: &mut Line,
+    how: Operator,
+    target: &Target<Expr>,
+    x: &Expr,
+) -> bool
+    ensures done { result ≡ true → (place : Place) →
+        IsDone (λ names. p.change place how (view_target names target.now) (view names x.now)) store.old store.new }
+    ensures not_done { result ≡ false → store.new ≡ store.old }
+{
+    if let Target::Variable(variable) = target {
+        return changed_variable(store, how, *variable, x);
+    }
+    let Target::Element(_, array, keys) = target else {
+        return false;
+    };
+    added_by(store, line, how, *array, keys.as_slice(), x)
+}
+
+/// `variable ++` and `variable --`, where the variable holds a number and there is no fault: the old number and the new
+/// one.
+#[inline(always)]
+pub fn stepped_variable(store: &mut Store, how: Step, variable: Variable) -> Option<(i64, i64)>
+    ensures done { IfSome result
+        (λ n. (g : Given) (t : Table) (place : Place) (taken : Which) →
+        Passes g (value (p.step place how taken (p.variable (variable_of (names_in g) variable)))) (store.old, t)
+        (give (either taken n.0 n.1)) (store.new, t)) }
+    ensures not_done { result ≡ None → store.new ≡ store.old }
+{
+    let old = number_kept(store, variable)?;
+    let Ok(new) = stepped(how, old) else {
+        return None;
+    };
+    store.set(variable, Value::Num(new));
+    Some((old, new))
+}
+
+/// What `++` and `--` add.
+fn step_by(how: Step) -> i64
+    ensures { (n : ℤ) → add n result ≡ machine.stepped how n }
+{
+    match how {
+        Step::Increment => 1,
+        Step::Decrement => -1,
+    }
+}
+
+/// `array [ key ] ++` and `array [ key ] --`
+#[inline(never)]
+fn stepped_element(
+    store: &mut Store,
+    line: &mut Line,
+    how: Step,
+    array: Variable,
+    keys: &[Expr],
+) -> bool
+    ensures done { result ≡ true → (place at_name : Place) (taken : Which) →
+        IsDone (λ names. p.step place how taken
+        (p.element at_name (variable_of names array) (expressions_of (map (view names) keys.now)))) store.old
+        store.new }
+    ensures not_done { result ≡ false → store.new ≡ store.old }
+{
+    added_at(store, line, array, keys, step_by(how))
+}
+
+/// `target ++` and `target --`
+#[inline(never)]
+fn stepped_target(store: &mut Store, line: &mut Line, how: Step, target: &Target<Expr>) -> bool
+    ensures done { result ≡ true → (place : Place) (taken : Which) →
+        IsDone (λ names. p.step place how taken (view_target names target.now)) store.old store.new }
+    ensures not_done { result ≡ false → store.new ≡ store.old }
+{
+    if let Target::Variable(variable) = target {
+        return stepped_variable(store, how, *variable).is_some();
+    }
+    let Target::Element(_, array, keys) = target else {
+        return false;
+    };
+    stepped_element(store, line, how, *array, keys.as_slice())
+}
+
+/// Does the whole of an assignment whose parts are at hand. Else it does nothing, and answers `false`;
+/// so also where there is a fault, which has its place in the general way.
+#[inline(always)]
+pub fn done_at_once(alloc: Global, store: &mut Store, line: &mut Line, e: &Expr) -> bool
+    ensures done { result ≡ true → IsDone (λ names. view names e.now) store.old store.new }
+    ensures not_done { result ≡ false → store.new ≡ store.old }
+{
+    if let Expr::Assign(_, target, x) = e {
+        return assigned(alloc, store, line, target, x.get());
+    }
+    if let Expr::Step(_, how, _, target) = e {
+        return stepped_target(store, line, *how, target);
+    }
+    let Expr::Change(_, how, target, x) = e else {
+        return false;
+    };
+    changed(store, line, *how, target, x.get())
+}
+
+/// Whether a part of an assignment is at hand only once the record is split.
+#[inline(always)]
+fn has_parts_to_split(e: &Expr) -> bool {
+    match e {
+        Expr::Assign(_, target, x) => is_keyed_by_field(target) || wants_split(x.get()),
+        Expr::Change(_, _, target, x) => is_keyed_by_field(target) || wants_split(x.get()),
+        Expr::Step(_, _, _, target) => is_keyed_by_field(target),
+        _ => false,
+    }
+}
+
+/// Whether the record is to be split before an assignment: it is not split yet, and that brings a part to hand.
+#[inline(always)]
+fn awaits_split(store: &Store, e: &Expr) -> bool {
+    is_unsplit(store) && has_parts_to_split(e)
+}
+
+/// Splits the record before an assignment, where that brings a part to hand: plain awk does not see it.
+#[inline(always)]
+pub fn split_for_assignment(store: &mut Store, e: &Expr) -> Result<(), Halt>
+    ensures { (g : Given) (t : Table) (q : Piece) → Acts g q (λ u k. q ∷ k) (store.old, t) result (store.new, t) }
+{
+    if !awaits_split(store, e) {
+        return Ok(());
+    }
+    split_record(store)
+}
