@@ -6,6 +6,7 @@ pub mod ClassLemmas
 pub mod PatternLemmas
 pub mod SignLemmas
 pub mod GapLemmas
+pub mod NumeralLemmas
 pub mod FirstLemmas
 pub mod PlaceLemmas
 pub mod StepLemmas
