@@ -55,17 +55,20 @@ record Moved (numbers : Numbers) (lead front rest : Text) (before tokens : List 
   same : map word_of moved ≡ map word_of tokens
 
 moved_on : (numbers : Numbers) (lead : Text) (before : List Token) (script front rest : Text) (tokens : List Token)
-    → operand_after before ≡ true → ReadsTo numbers lead before script → script ≡ front ++ rest → ReadsTo numbers front tokens rest
+    → operand_after before ≡ true → ReadsTo numbers lead before script → script ≡ front ++ rest
+    → ReadsTo numbers front tokens rest
     → Moved numbers lead front rest before tokens
 moved_on numbers lead before script _ _ _ begins base parts (begun rest) =
     record {
       moved = [];
-      read = subst (λ w. ReadsTo numbers w (before ++ []) rest) (sym (append-nil lead)) (subst (λ ts. ReadsTo numbers lead ts rest)
+      read = subst (λ w. ReadsTo numbers w (before ++ []) rest) (sym (append-nil lead))
+      (subst (λ ts. ReadsTo numbers lead ts rest)
           (sym (append-nil before)) (subst (λ w. ReadsTo numbers lead before w) parts base));
       same = refl;
     }
 moved_on numbers lead before script _ _ _ begins base parts (a_gap front gap rest tokens prior h) =
-    let m = moved_on numbers lead before script front (gap ++ rest) tokens begins base (parts ∙ append_assoc front gap rest)
+    let m = moved_on numbers lead before script front (gap ++ rest) tokens begins base
+    (parts ∙ append_assoc front gap rest)
     prior in
     record {
       moved = m.moved;
@@ -74,10 +77,12 @@ moved_on numbers lead before script _ _ _ begins base parts (a_gap front gap res
       same = m.same;
     }
 moved_on numbers lead before script _ _ _ begins base parts (a_token front text rest tokens kind prior h) =
-    let m = moved_on numbers lead before script front (text ++ rest) tokens begins base (parts ∙ append_assoc front text rest)
+    let m = moved_on numbers lead before script front (text ++ rest) tokens begins base
+    (parts ∙ append_assoc front text rest)
     prior in
     let t = token_of (lead ++ front) kind text in
-    let first : IsFirst numbers (operand_after (before ++ m.moved)) kind text rest = subst (λ o. IsFirst numbers o kind text rest)
+    let first : IsFirst numbers (operand_after (before ++ m.moved)) kind text rest = subst
+    (λ o. IsFirst numbers o kind text rest)
     (sym (operand_moved before m.moved tokens begins m.same)) h in
     record {
       moved = m.moved ++ t ∷ [];
@@ -96,7 +101,8 @@ joined_next text next texts = refl
 abbrev IsReadAs : List Text → List Word → Type 0
 IsReadAs texts words = (tokens : List Token) × Reads Whole (joined texts) tokens × (map word_of tokens ≡ words)
 
-two_read : (numbers : Numbers) (text behind : Text) (tokens others : List Token) → Reads numbers text tokens → Reads numbers behind others
+two_read : (numbers : Numbers) (text behind : Text) (tokens others : List Token) → Reads numbers text tokens
+    → Reads numbers behind others
     → (all : List Token) × Reads numbers (text ++ 10 ∷ behind) all
     × (map word_of all ≡ map word_of tokens ++ newline ∷ map word_of others)
 two_read numbers text behind tokens others one two =
@@ -105,7 +111,8 @@ two_read numbers text behind tokens others one two =
     let seam : ReadsTo numbers (text ++ 10 ∷ []) before behind = a_token text (10 ∷ []) behind tokens Sign
     (read_on numbers text [] behind tokens one) (newline_first numbers (operand_after tokens) behind) in
     let begins : operand_after before ≡ true = fold-append goes true tokens (sign ∷ []) in
-    let m = moved_on numbers (text ++ 10 ∷ []) before behind behind [] others begins seam (sym (append-nil behind)) two in (
+    let m = moved_on numbers (text ++ 10 ∷ []) before behind behind [] others begins seam
+    (sym (append-nil behind)) two in (
       before ++ m.moved,
       subst (λ w. Reads numbers w (before ++ m.moved)) (append_assoc text (10 ∷ []) behind) m.read,
       map-append word_of before m.moved ∙ ap (λ ws. map word_of before ++ ws) m.same

@@ -46,7 +46,8 @@ body_on : (part : _) (body rest more : Text) → PatternEnds part (body ++ rest)
 body_on part body rest more h = subst (λ w. PatternEnds part w (rest ++ 10 ∷ more)) (append_assoc body rest (10 ∷ more))
     (pattern_on part (body ++ rest) rest more h)
 
-token_on : (numbers : Numbers) (operand : Bool) (kind : TokenKind) (text rest more : Text) → IsToken numbers operand kind text rest
+token_on : (numbers : Numbers) (operand : Bool) (kind : TokenKind) (text rest more : Text)
+    → IsToken numbers operand kind text rest
     → IsToken numbers operand kind text (rest ++ 10 ∷ more)
 token_on numbers operand Number text rest more h = h
 token_on numbers operand Quoted text rest more h = (
@@ -112,7 +113,8 @@ word_family_of : (text rest : Text) → family_of (word_kind text rest) ≡ a_wo
 word_family_of text rest = word_kinds (lookup words text) (eqb (slice_index rest 0) 40)
 
 -- a word of its kind is that token
-word_is : (numbers : Numbers) (operand : Bool) (kind : TokenKind) (text rest : Text) → family_of kind ≡ a_word → IsWord kind text rest
+word_is : (numbers : Numbers) (operand : Bool) (kind : TokenKind) (text rest : Text) → family_of kind ≡ a_word
+    → IsWord kind text rest
     → IsToken numbers operand kind text rest
 word_is numbers operand Number text rest e h = absurd cc
 word_is numbers operand Quoted text rest e h = absurd cc
@@ -145,7 +147,8 @@ run_one p z c all passes = list_all-append p z (c ∷ []) ∙ ap (λ t. t && lis
 no_name_newline : continues_name 10 ≡ false
 no_name_newline = refl
 
-word_adds : (numbers : Numbers) (operand : Bool) (b : ℕ) (z rest more added left : Text) → NoLonger numbers operand (b ∷ z) rest
+word_adds : (numbers : Numbers) (operand : Bool) (b : ℕ) (z rest more added left : Text)
+    → NoLonger numbers operand (b ∷ z) rest
     → rest ++ 10 ∷ more ≡ added ++ left → is_name (b ∷ (z ++ added)) ≡ true → added ≡ []
 word_adds numbers operand b z rest more [] left none parts all = refl
 word_adds numbers operand b z [] more (c ∷ added) left none parts all =
@@ -179,7 +182,8 @@ same_whole z body other rest added left is is_other parts =
     ap (λ w. w ++ left) (sym is_other) ∙ append_assoc z added left ∙ ap (λ w. z ++ w) (sym parts)
     ∙ ap (λ w. w ++ rest) is
 
-string_adds : (numbers : Numbers) (operand : Bool) (b : ℕ) (z rest added left : Text) → IsToken numbers operand Quoted (b ∷ z) rest
+string_adds : (numbers : Numbers) (operand : Bool) (b : ℕ) (z rest added left : Text)
+    → IsToken numbers operand Quoted (b ∷ z) rest
     → rest ≡ added ++ left → IsToken numbers operand Quoted (b ∷ (z ++ added)) left → added ≡ []
 string_adds numbers operand b z rest added left h parts o =
     let whole = same_whole z h.0 o.0 rest added left (tail_is b 34 z h.0 h.1) (tail_is b 34 (z ++ added) o.0 o.1) parts
@@ -188,7 +192,8 @@ string_adds numbers operand b z rest added left h parts o =
     let two = string_rest_at (o.0 ++ left) left o.2 in
     no_rest added left (sym parts ∙ some_is rest left (sym one ∙ sym (ap (string_rest false) whole) ∙ two))
 
-pattern_adds : (numbers : Numbers) (operand : Bool) (b : ℕ) (z rest added left : Text) → IsToken numbers operand Pattern (b ∷ z) rest
+pattern_adds : (numbers : Numbers) (operand : Bool) (b : ℕ) (z rest added left : Text)
+    → IsToken numbers operand Pattern (b ∷ z) rest
     → rest ≡ added ++ left → IsToken numbers operand Pattern (b ∷ (z ++ added)) left → added ≡ []
 pattern_adds numbers operand b z rest added left h parts o =
     let whole = same_whole z h.0 o.0 rest added left (tail_is b 47 z h.0 h.1) (tail_is b 47 (z ++ added) o.0 o.1) parts
@@ -231,40 +236,52 @@ sign_adds numbers operand b [] (r ∷ rest) more (c ∷ []) left sign slash none
     absurd cc
 
 adds_nothing : (numbers : Numbers) (operand : Bool) (kind other : TokenKind) (b : ℕ) (z rest more : Text)
-    → IsToken numbers operand kind (b ∷ z) rest → NoLonger numbers operand (b ∷ z) rest → family_of other ≡ family_of kind
+    → IsToken numbers operand kind (b ∷ z) rest → NoLonger numbers operand (b ∷ z) rest
+    → family_of other ≡ family_of kind
     → Adds numbers operand (b ∷ z) rest more other
 adds_nothing numbers operand Number other b z rest more h none same added left parts o =
     let h = as_number numbers operand other (b ∷ (z ++ added)) left same o in
     let before = number_before numbers (b ∷ z) added rest more left h parts in
     none Number added before.0 before.1 h
 adds_nothing numbers operand Quoted other b z rest more h none same added left parts o =
-    string_adds numbers operand b z (rest ++ 10 ∷ more) added left (token_on numbers operand Quoted (b ∷ z) rest more h) parts
+    string_adds numbers operand b z (rest ++ 10 ∷ more) added left
+    (token_on numbers operand Quoted (b ∷ z) rest more h) parts
     (as_string numbers operand other (b ∷ (z ++ added)) left same o)
 adds_nothing numbers operand Pattern other b z rest more h none same added left parts o =
-    pattern_adds numbers operand b z (rest ++ 10 ∷ more) added left (token_on numbers operand Pattern (b ∷ z) rest more h) parts
+    pattern_adds numbers operand b z (rest ++ 10 ∷ more) added left
+    (token_on numbers operand Pattern (b ∷ z) rest more h) parts
     (as_pattern numbers operand other (b ∷ (z ++ added)) left same o)
 adds_nothing numbers operand Sign other b z rest more h none same added left parts o =
-    sign_adds numbers operand b z rest more added left h.0 h.1 none parts (as_sign numbers operand other (b ∷ (z ++ added)) left same o)
+    sign_adds numbers operand b z rest more added left h.0 h.1 none parts
+    (as_sign numbers operand other (b ∷ (z ++ added)) left same o)
 adds_nothing numbers operand Keyword other b z rest more h none same added left parts o =
-    word_adds numbers operand b z rest more added left none parts (as_name numbers operand other (b ∷ (z ++ added)) left same o)
+    word_adds numbers operand b z rest more added left none parts
+    (as_name numbers operand other (b ∷ (z ++ added)) left same o)
 adds_nothing numbers operand Builtin other b z rest more h none same added left parts o =
-    word_adds numbers operand b z rest more added left none parts (as_name numbers operand other (b ∷ (z ++ added)) left same o)
+    word_adds numbers operand b z rest more added left none parts
+    (as_name numbers operand other (b ∷ (z ++ added)) left same o)
 adds_nothing numbers operand Refused other b z rest more h none same added left parts o =
-    word_adds numbers operand b z rest more added left none parts (as_name numbers operand other (b ∷ (z ++ added)) left same o)
+    word_adds numbers operand b z rest more added left none parts
+    (as_name numbers operand other (b ∷ (z ++ added)) left same o)
 adds_nothing numbers operand Name other b z rest more h none same added left parts o =
-    word_adds numbers operand b z rest more added left none parts (as_name numbers operand other (b ∷ (z ++ added)) left same o)
+    word_adds numbers operand b z rest more added left none parts
+    (as_name numbers operand other (b ∷ (z ++ added)) left same o)
 adds_nothing numbers operand CallName other b z rest more h none same added left parts o =
-    word_adds numbers operand b z rest more added left none parts (as_name numbers operand other (b ∷ (z ++ added)) left same o)
+    word_adds numbers operand b z rest more added left none parts
+    (as_name numbers operand other (b ∷ (z ++ added)) left same o)
 
-longest_on : (numbers : Numbers) (operand : Bool) (kind : TokenKind) (text rest more : Text) → IsToken numbers operand kind text rest
+longest_on : (numbers : Numbers) (operand : Bool) (kind : TokenKind) (text rest more : Text)
+    → IsToken numbers operand kind text rest
     → NoLonger numbers operand text rest → NoLonger numbers operand text (rest ++ 10 ∷ more)
 longest_on numbers operand kind [] rest more h none = absurd (no_token_empty numbers operand kind rest h)
 longest_on numbers operand kind (b ∷ z) rest more h none =
     λ other added left parts o.
-    adds_nothing numbers operand kind other b z rest more h none (sym (family_told numbers operand other b (z ++ added) left o)
+    adds_nothing numbers operand kind other b z rest more h none
+    (sym (family_told numbers operand other b (z ++ added) left o)
     ∙ family_told numbers operand kind b z rest h) added left parts o
 
-pub first_on : (numbers : Numbers) (operand : Bool) (kind : TokenKind) (text rest more : Text) → IsFirst numbers operand kind text rest
+pub first_on : (numbers : Numbers) (operand : Bool) (kind : TokenKind) (text rest more : Text)
+    → IsFirst numbers operand kind text rest
     → IsFirst numbers operand kind text (rest ++ 10 ∷ more)
 first_on numbers operand kind text rest more h =
     record {

@@ -69,7 +69,7 @@ has_points Double = true
 abbrev leads_number : Numbers → ℕ → Bool
 leads_number numbers b = is_ascii_digit b || (eqb b 46 && has_points numbers)
 
-abbrev other_family : Bool → ℕ → Family
+abbrev pub other_family : Bool → ℕ → Family
 other_family operand b =
     cond (begins_name b) a_word (cond (eqb b 34) a_string (cond (eqb b 47 && operand) a_pattern a_sign))
 
@@ -82,7 +82,8 @@ name_no_digit b h = grind (arith, nat_tests)
 name_no_point : (b : ℕ) → begins_name b ≡ true → eqb b 46 ≡ false
 name_no_point b h = grind (arith, nat_tests)
 
-word_family : (numbers : Numbers) (operand : Bool) (b : ℕ) (z : Text) → is_name (b ∷ z) ≡ true → family_at numbers operand b ≡ a_word
+word_family : (numbers : Numbers) (operand : Bool) (b : ℕ) (z : Text) → is_name (b ∷ z) ≡ true
+    → family_at numbers operand b ≡ a_word
 word_family numbers operand b z h =
     let begins = (and_parts (begins_name b) (list_all continues_name z) h).0 in
     rw (name_no_digit b begins, name_no_point b begins, begins) refl
@@ -134,11 +135,14 @@ number_leads Double b z h =
       | inr at_point ↦ ap (leads_number Double) at_point.0
     ]
 
-pub family_told : (numbers : Numbers) (operand : Bool) (kind : TokenKind) (b : ℕ) (z rest : Text) → IsToken numbers operand kind (b ∷ z) rest
+pub family_told : (numbers : Numbers) (operand : Bool) (kind : TokenKind) (b : ℕ) (z rest : Text)
+    → IsToken numbers operand kind (b ∷ z) rest
     → family_at numbers operand b ≡ family_of kind
-family_told numbers operand Number b z rest h = ap (λ t. cond t a_number (other_family operand b)) (number_leads numbers b z h)
+family_told numbers operand Number b z rest h = ap (λ t. cond t a_number (other_family operand b))
+    (number_leads numbers b z h)
 family_told numbers operand Quoted b z rest h = ap (family_at numbers operand) (head_is b 34 z h.0 h.1)
-family_told numbers operand Pattern b z rest h = ap (λ o. family_at numbers o b) h.2 ∙ ap (family_at numbers true) (head_is b 47 z h.0 h.1)
+family_told numbers operand Pattern b z rest h = ap (λ o. family_at numbers o b) h.2
+    ∙ ap (family_at numbers true) (head_is b 47 z h.0 h.1)
 family_told numbers operand Sign b z rest h =
     let no_digit = sign_first is_ascii_digit refl refl b z h.0 in
     let no_point = sign_first (λ c. eqb c 46) refl refl b z h.0 in
@@ -218,10 +222,12 @@ as_sign numbers operand CallName text rest e h = absurd cc
 
 -- what a longer token of the same first byte adds
 abbrev Adds : Numbers → Family → Bool → Text → Text → Type 0
-Adds numbers family operand text rest = (kind : TokenKind) (more left : Text) → family_of kind ≡ family → rest ≡ more ++ left
+Adds numbers family operand text rest = (kind : TokenKind) (more left : Text) → family_of kind ≡ family
+    → rest ≡ more ++ left
     → IsToken numbers operand kind (text ++ more) left → more ≡ []
 
-no_longer : (numbers : Numbers) (operand : Bool) (family : Family) (b : ℕ) (z rest : Text) → family_at numbers operand b ≡ family
+no_longer : (numbers : Numbers) (operand : Bool) (family : Family) (b : ℕ) (z rest : Text)
+    → family_at numbers operand b ≡ family
     → Adds numbers family operand (b ∷ z) rest → NoLonger numbers operand (b ∷ z) rest
 no_longer numbers operand family b z rest is adds kind more left parts other =
     adds kind more left (sym (family_told numbers operand kind b (z ++ more) left other) ∙ is) parts other
@@ -242,7 +248,8 @@ run_len p b z h = ap (λ t. cond t (1 + prefix_len p z) 0) h ∙ one_up (prefix_
     one_up : (n : ℕ) → 1 + n ≡ suc n
     one_up n = omega arith
 
-name_adds : (numbers : Numbers) (operand : Bool) (b : ℕ) (z : Text) → Adds numbers a_word operand (b ∷ take (name_len z) z) (drop (name_len z) z)
+name_adds : (numbers : Numbers) (operand : Bool) (b : ℕ) (z : Text)
+    → Adds numbers a_word operand (b ∷ take (name_len z) z) (drop (name_len z) z)
 name_adds numbers operand b z kind more left is parts other =
     let all = (and_parts (begins_name b) (list_all continues_name (take (name_len z) z ++ more))
     (as_name numbers operand kind (b ∷ (take (name_len z) z ++ more)) left is other)).1 in
@@ -285,7 +292,8 @@ pattern_adds numbers operand body rest h kind more left is parts other =
     some_is : (x y : Text) → Some x ≡ Some y → x ≡ y
     some_is x y e = cc
 
-double_adds : (numbers : Numbers) (operand : Bool) (b next : ℕ) (rest : Text) → Adds numbers a_sign operand (b ∷ next ∷ []) rest
+double_adds : (numbers : Numbers) (operand : Bool) (b next : ℕ) (rest : Text)
+    → Adds numbers a_sign operand (b ∷ next ∷ []) rest
 double_adds numbers operand b next rest kind [] left is parts other = refl
 double_adds numbers operand b next rest kind (c ∷ more) left is parts other =
     let sign_is = as_sign numbers operand kind (b ∷ next ∷ c ∷ more) left is other in absurd cc
@@ -504,7 +512,8 @@ word_family_of : (text rest : Text) → family_of (word_kind text rest) ≡ a_wo
 word_family_of text rest = word_kinds (lookup words text) (eqb (slice_index rest 0) 40)
 
 -- a word of its kind is that token
-word_is : (numbers : Numbers) (operand : Bool) (kind : TokenKind) (text rest : Text) → family_of kind ≡ a_word → IsWord kind text rest
+word_is : (numbers : Numbers) (operand : Bool) (kind : TokenKind) (text rest : Text) → family_of kind ≡ a_word
+    → IsWord kind text rest
     → IsToken numbers operand kind text rest × IsConstant numbers kind text rest
 word_is numbers operand Number text rest e h = absurd cc
 word_is numbers operand Quoted text rest e h = absurd cc
@@ -522,7 +531,8 @@ unfolding word
 word_choice b z continues = ap (λ len. (word_kind (take len (b ∷ z)) (drop len (b ∷ z)), len))
     (run_len continues_name b z continues)
 
-word_found : (numbers : Numbers) (operand : Bool) (b : ℕ) (z : Text) (kind : TokenKind) (n : ℕ) → begins_name b ≡ true → okay (word (b ∷ z)) ≡ Ok (kind, n) → First numbers operand (b ∷ z) kind n
+word_found : (numbers : Numbers) (operand : Bool) (b : ℕ) (z : Text) (kind : TokenKind) (n : ℕ) → begins_name b ≡ true
+    → okay (word (b ∷ z)) ≡ Ok (kind, n) → First numbers operand (b ∷ z) kind n
 word_found numbers operand b z kind n begins e =
     let m = name_len z in
     let text : Text = b ∷ take m z in
@@ -545,7 +555,8 @@ word_found numbers operand b z kind n begins e =
         constant = token.1;
       };
     } in
-    subst (λ p. First numbers operand (b ∷ z) p.0 p.1) (sym (word_choice b z (name_continues b begins)) ∙ ok_same (word (b ∷ z))
+    subst (λ p. First numbers operand (b ∷ z) p.0 p.1)
+    (sym (word_choice b z (name_continues b begins)) ∙ ok_same (word (b ∷ z))
     (kind, n) e) made
 
 -- a scan to the end that was closed
@@ -558,7 +569,8 @@ closed_err : (k : TokenKind) (z : Text) (o : Option Text) (code : ℕ) → close
 closed_err k z None code e = (refl, cc)
 closed_err k z (Some rest) code e = absurd cc
 
-string_found : (numbers : Numbers) (operand : Bool) (z : Text) (kind : TokenKind) (n : ℕ) → closed Quoted (34 ∷ z) (string_rest false z)
+string_found : (numbers : Numbers) (operand : Bool) (z : Text) (kind : TokenKind) (n : ℕ)
+    → closed Quoted (34 ∷ z) (string_rest false z)
     ≡ Ok (kind, n) → First numbers operand (34 ∷ z) kind n
 string_found numbers operand z kind n e =
     let c = closed_ok Quoted (34 ∷ z) (string_rest false z) (kind, n) e in
@@ -583,7 +595,8 @@ string_found numbers operand z kind n e =
     } in
     subst (λ q. First numbers operand (34 ∷ z) q.0 q.1) c.2 made
 
-pattern_found : (numbers : Numbers) (z : Text) (kind : TokenKind) (n : ℕ) → closed Pattern (47 ∷ z) (pattern_rest Outside 0 z)
+pattern_found : (numbers : Numbers) (z : Text) (kind : TokenKind) (n : ℕ)
+    → closed Pattern (47 ∷ z) (pattern_rest Outside 0 z)
     ≡ Ok (kind, n) → First numbers true (47 ∷ z) kind n
 pattern_found numbers z kind n e =
     let c = closed_ok Pattern (47 ∷ z) (pattern_rest Outside 0 z) (kind, n) e in
@@ -617,13 +630,15 @@ record Plain (operand : Bool) (b : ℕ) : Type 0 where
   no_quote : eqb b 34 ≡ false
   no_slash : (eqb b 47 && operand) ≡ false
 
-plain_family : (numbers : Numbers) (operand : Bool) (b : ℕ) → Plain operand b → eqb b 46 ≡ false → family_at numbers operand b ≡ a_sign
+plain_family : (numbers : Numbers) (operand : Bool) (b : ℕ) → Plain operand b → eqb b 46 ≡ false
+    → family_at numbers operand b ≡ a_sign
 plain_family numbers operand b p no_point = rw (p.no_digit, no_point, p.no_name, p.no_quote, p.no_slash) refl
 
 not_slash : (operand : Bool) (b : ℕ) → Plain operand b → operand ≡ true → b ≢ 47
 not_slash operand b p is is47 = both_ways (eqb b 47 && operand) p.no_slash (rw (eq-eqb b 47 is47, is) refl)
 
-double_found : (numbers : Numbers) (operand : Bool) (b : ℕ) (z : Text) → Plain operand b → is_double b (get_or z 0 0) ≡ true
+double_found : (numbers : Numbers) (operand : Bool) (b : ℕ) (z : Text) → Plain operand b
+    → is_double b (get_or z 0 0) ≡ true
     → First numbers operand (b ∷ z) Sign 2
 double_found numbers operand b z p is =
     let next = get_or z 0 0 in
@@ -636,12 +651,14 @@ double_found numbers operand b z p is =
       first = record {
         token = (is, not_slash operand b p);
         longest = no_longer numbers operand a_sign b (next ∷ []) (drop 1 z)
-            (plain_family numbers operand b p (sign_first (λ c. eqb c 46) refl refl b (next ∷ []) is)) (double_adds numbers operand b next (drop 1 z));
+            (plain_family numbers operand b p (sign_first (λ c. eqb c 46) refl refl b (next ∷ []) is))
+            (double_adds numbers operand b next (drop 1 z));
         constant = tt;
       };
     }
 
-single_found : (numbers : Numbers) (operand : Bool) (b : ℕ) (z : Text) → Plain operand b → is_double b (get_or z 0 0) ≡ false
+single_found : (numbers : Numbers) (operand : Bool) (b : ℕ) (z : Text) → Plain operand b
+    → is_double b (get_or z 0 0) ≡ false
     → is_single b ≡ true → First numbers operand (b ∷ z) Sign 1
 single_found numbers operand b z p other is =
     record {
@@ -653,7 +670,8 @@ single_found numbers operand b z p other is =
       first = record {
         token = (is, not_slash operand b p);
         longest = no_longer numbers operand a_sign b [] z
-            (plain_family numbers operand b p (sign_first (λ c. eqb c 46) refl refl b [] is)) (single_adds numbers operand b z other);
+            (plain_family numbers operand b p (sign_first (λ c. eqb c 46) refl refl b [] is))
+            (single_adds numbers operand b z other);
         constant = tt;
       };
     }
@@ -707,8 +725,10 @@ a_stray operand b z none p double single no_point =
       no_sign = no_sign_there b z double single;
     }
 
-sign_refused : (numbers : Numbers) (operand : Bool) (b : ℕ) (z : Text) (code : ℕ) → gap_len (b ∷ z) ≡ 0 → Plain operand b
-    → (eqb b 46 && is_ascii_digit (get_or z 0 0)) ≡ false → sign (b ∷ z) ≡ Err code → Stands numbers operand code (b ∷ z)
+sign_refused : (numbers : Numbers) (operand : Bool) (b : ℕ) (z : Text) (code : ℕ) → gap_len (b ∷ z) ≡ 0
+    → Plain operand b
+    → (eqb b 46 && is_ascii_digit (get_or z 0 0)) ≡ false → sign (b ∷ z) ≡ Err code
+    → Stands numbers operand code (b ∷ z)
 unfolding sign_len
 sign_refused numbers operand b z code none p no_point e =
     let next = get_or z 0 0 in
@@ -733,7 +753,8 @@ choice numbers operand b z =
     (cond (eqb b 34) (closed Quoted (b ∷ z) (string_rest false z))
     (cond (eqb b 47 && operand) (closed Pattern (b ∷ z) (pattern_rest Outside 0 z)) (sign (b ∷ z)))))
 
-first_token_is : (numbers : Numbers) (operand : Bool) (b : ℕ) (z : Text) → first_token numbers operand (b ∷ z) ≡ choice numbers operand b z
+first_token_is : (numbers : Numbers) (operand : Bool) (b : ℕ) (z : Text)
+    → first_token numbers operand (b ∷ z) ≡ choice numbers operand b z
 unfolding first_token
 first_token_is numbers operand b z = refl
 
@@ -763,7 +784,8 @@ first_found numbers operand (b ∷ z) kind n some e =
                         | inl h ↦
                             let both = and_parts (eqb b 47) operand h.0 in
                             let is47 = eqb-true b 47 both.0 in
-                            subst (λ o. First numbers o (b ∷ z) kind n) (sym both.1) (subst (λ c. First numbers true (c ∷ z) kind n)
+                            subst (λ o. First numbers o (b ∷ z) kind n) (sym both.1)
+                            (subst (λ c. First numbers true (c ∷ z) kind n)
                             (sym is47) (pattern_found numbers z kind n
                             (subst (λ c. closed Pattern (c ∷ z) (pattern_rest Outside 0 z) ≡ Ok (kind, n)) is47
                             h.1)))
@@ -798,7 +820,8 @@ first_refused numbers operand (b ∷ z) code some none e =
                         | inl h ↦
                             let both = and_parts (eqb b 47) operand h.0 in
                             let c = closed_err Pattern (b ∷ z) (pattern_rest Outside 0 z) code h.1 in
-                            subst (λ o. Stands numbers o code (b ∷ z)) (sym both.1) (subst (λ k. Stands numbers true k (b ∷ z)) c.1
+                            subst (λ o. Stands numbers o code (b ∷ z)) (sym both.1)
+                            (subst (λ k. Stands numbers true k (b ∷ z)) c.1
                             (subst (λ v. Stands numbers true 2 (v ∷ z)) (sym (eqb-true b 47 both.0))
                             (open_pattern z (pattern_open z c.0))))
                         | inr h ↦ sign_refused numbers operand b z code none (record {

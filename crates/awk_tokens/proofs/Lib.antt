@@ -11,3 +11,4 @@ pub mod FirstLemmas
 pub mod PlaceLemmas
 pub mod StepLemmas
 pub mod Once
+pub mod Restriction

@@ -22,20 +22,20 @@ use Rattle.awk_tokens.proofs.Runs.{list_all_take, prefix_len_all}
 -- ---- how long it is
 
 -- a point, and the digits behind it
-abbrev pointed_len : Text → ℕ
+abbrev pub pointed_len : Text → ℕ
 pointed_len y = cond (eqb (get_or y 0 0) 46) (1 + digits_len (drop 1 y)) 0
 
 abbrev pub mantissa_len : Text → ℕ
 mantissa_len z = digits_len z + pointed_len (drop (digits_len z) z)
 
-abbrev is_signed : Text → Bool
+abbrev pub is_signed : Text → Bool
 is_signed v = eqb (get_or v 1 0) 45 || eqb (get_or v 1 0) 43
 
 -- `e`, and a sign or none
-abbrev lead_len : Text → ℕ
+abbrev pub lead_len : Text → ℕ
 lead_len v = cond (is_signed v) 2 1
 
-abbrev has_power : Text → Bool
+abbrev pub has_power : Text → Bool
 has_power v = (eqb (get_or v 0 0) 101 || eqb (get_or v 0 0) 69) && is_ascii_digit (get_or v (lead_len v) 0)
 
 abbrev pub exponent_len : Text → ℕ
@@ -52,7 +52,7 @@ at_drop z n i = sym (get_or-drop n z i 0)
 at_front : (z : Text) (n : ℕ) → get_or z n 0 ≡ get_or (drop n z) 0 0
 at_front z n = ap (λ i. get_or z i 0) (sym (add-zero n)) ∙ at_drop z n 0
 
-pub mantissa_end : (z : Text) (a : ℕ) → cond (eqb (get_or z a 0) 46) (digits_end z (a + 1)) a ≡ a + pointed_len (drop a z)
+mantissa_end : (z : Text) (a : ℕ) → cond (eqb (get_or z a 0) 46) (digits_end z (a + 1)) a ≡ a + pointed_len (drop a z)
 mantissa_end z a =
     ap (λ b. cond (eqb b 46) (digits_end z (a + 1)) a) (at_front z a)
     ∙ ap (λ w. cond (eqb (get_or (drop a z) 0 0) 46) (a + 1 + digits_len w) a) (sym (drop-drop 1 a z))
@@ -62,14 +62,14 @@ mantissa_end z a =
     moved true k = omega arith
     moved false k = omega arith
 
-pub start_is : (z : Text) (b : ℕ) → exponent_start z b ≡ b + lead_len (drop b z)
+start_is : (z : Text) (b : ℕ) → exponent_start z b ≡ b + lead_len (drop b z)
 start_is z b = ap (λ c. cond (eqb c 45 || eqb c 43) (b + 2) (b + 1)) (at_drop z b 1) ∙ moved (is_signed (drop b z))
   where
     moved : (t : Bool) → cond t (b + 2) (b + 1) ≡ b + cond t 2 1
     moved true = refl
     moved false = refl
 
-pub power_is : (z : Text) (b : ℕ) → has_exponent z b ≡ has_power (drop b z)
+power_is : (z : Text) (b : ℕ) → has_exponent z b ≡ has_power (drop b z)
 power_is z b =
     let v : Text = drop b z in
     ap (λ c. (eqb c 101 || eqb c 69) && is_ascii_digit (get_or z (exponent_start z b) 0)) (at_front z b)
@@ -90,7 +90,7 @@ power_end z b =
     moved true l k = omega arith
     moved false l k = omega arith
 
-pub digits_front : (z : Text) → digits_end z 0 ≡ digits_len z
+digits_front : (z : Text) → digits_end z 0 ≡ digits_len z
 digits_front z = omega arith
 
 abbrev pub mantissa_to : Text → ℕ → ℕ
@@ -99,23 +99,23 @@ mantissa_to z a = cond (eqb (get_or z a 0) 46) (digits_end z (a + 1)) a
 abbrev pub power_to : Text → ℕ → ℕ
 power_to z b = cond (has_exponent z b) (digits_end z (exponent_start z b)) b
 
-pub scan_len : (z : Text) → (scan z).len ≡ numeral_len z
+scan_len : (z : Text) → (scan z).len ≡ numeral_len z
 unfolding scan
 scan_len z = ap (λ a. power_to z (mantissa_to z a)) (digits_front z) ∙ ap (power_to z) (mantissa_end z (digits_len z))
     ∙ power_end z (mantissa_len z)
 
 -- ---- a numeral at the front is no longer
 
-number_all : (t : Text) → is_number t ≡ true → list_all is_ascii_digit t ≡ true
+pub number_all : (t : Text) → is_number t ≡ true → list_all is_ascii_digit t ≡ true
 number_all [] h = absurd (false≢true h)
 number_all (c ∷ t) h = h
 
-both_digits : (x y : Text) → is_number (x ++ y) ≡ true → (list_all is_ascii_digit x ≡ true)
+pub both_digits : (x y : Text) → is_number (x ++ y) ≡ true → (list_all is_ascii_digit x ≡ true)
     × (list_all is_ascii_digit y ≡ true)
 both_digits x y h = and_parts (list_all is_ascii_digit x) (list_all is_ascii_digit y)
     (sym (list_all-append is_ascii_digit x y) ∙ number_all (x ++ y) h)
 
-run_over : (w y : Text) → list_all is_ascii_digit w ≡ true → length w ≤ digits_len (w ++ y)
+pub run_over : (w y : Text) → list_all is_ascii_digit w ≡ true → length w ≤ digits_len (w ++ y)
 run_over [] y h = omega arith
 run_over (c ∷ w) y h =
     let both = and_parts (is_ascii_digit c) (list_all is_ascii_digit w) h in
@@ -132,9 +132,11 @@ point_run front behind y h =
     let w : Text = (front ++ 46 ∷ behind) ++ y in
     let same : w ≡ front ++ 46 ∷ (behind ++ y) = append_assoc front (46 ∷ behind) y in
     let run : digits_len w ≡ length front = ap digits_len same ∙ prefix_len_all is_ascii_digit front 46 (behind ++ y) h
-    refl in
-    (run, ap (λ n. pointed_len (drop n w)) run ∙ ap (λ u. pointed_len (drop (length front) u)) same
-        ∙ ap pointed_len (drop-append_seam front (46 ∷ (behind ++ y))))
+    refl in (
+      run,
+      ap (λ n. pointed_len (drop n w)) run ∙ ap (λ u. pointed_len (drop (length front) u)) same
+          ∙ ap pointed_len (drop-append_seam front (46 ∷ (behind ++ y))),
+    )
 
 mantissa_over : (m y : Text) → IsMantissa m → length m ≤ mantissa_len (m ++ y)
 mantissa_over _ y (whole digits h) = omega (arith, run_over digits y (number_all digits h))
@@ -168,7 +170,7 @@ other_order c t h = swap (eqb c 43) (eqb c 45) ∙ h
     swap false true = refl
     swap false false = refl
 
-one_order : (c : ℕ) (t : Bool) → (eqb c 45 || eqb c 43) ≡ t → (eqb c 43 || eqb c 45) ≡ t
+pub one_order : (c : ℕ) (t : Bool) → (eqb c 45 || eqb c 43) ≡ t → (eqb c 43 || eqb c 45) ≡ t
 one_order c t h = swap (eqb c 43) (eqb c 45) ∙ h
   where
     swap : (p q : Bool) → (p || q) ≡ (q || p)
@@ -236,7 +238,7 @@ covers m (e ∷ x) left mantissa exponent =
     no_point : (e : ℕ) → (eqb e 101 || eqb e 69) ≡ true → eqb e 46 ≡ false
     no_point e h = grind (arith, nat_tests)
 
-numeral_covers : (text left : Text) → IsNumeral text → length text ≤ numeral_len (text ++ left)
+pub numeral_covers : (text left : Text) → IsNumeral text → length text ≤ numeral_len (text ++ left)
 numeral_covers text left n = subst (λ t. length t ≤ numeral_len (t ++ left)) (sym n.parts)
     (covers n.mantissa n.exponent left n.is_mantissa n.is_exponent)
 
@@ -244,14 +246,15 @@ numeral_covers text left n = subst (λ t. length t ≤ numeral_len (t ++ left)) 
 
 take_add : (n m : ℕ) (z : Text) → take (n + m) z ≡ take n z ++ take m (drop n z)
 take_add n m z =
-    sym (take-append-drop n (take (n + m) z)) ∙ ap (λ w. w ++ drop n (take (n + m) z)) (take-take n (n + m) z (omega arith))
+    sym (take-append-drop n (take (n + m) z))
+    ∙ ap (λ w. w ++ drop n (take (n + m) z)) (take-take n (n + m) z (omega arith))
     ∙ ap (λ w. take n z ++ w) (drop-take n m z)
 
 number_of : (t : Text) → list_all is_ascii_digit t ≡ true → 0 < length t → is_number t ≡ true
 number_of [] h some = absurd (omega arith)
 number_of (c ∷ t) h some = h
 
-one_up : (n : ℕ) → 1 + n ≡ suc n
+pub one_up : (n : ℕ) → 1 + n ≡ suc n
 one_up n = omega arith
 
 cons_at : (y : Text) → eqb (get_or y 0 0) 46 ≡ true → y ≡ 46 ∷ drop 1 y
@@ -270,7 +273,7 @@ behind_len y = cond (eqb (get_or y 0 0) 46) (digits_len (drop 1 y)) 0
 abbrev pub digits_in : Text → ℕ
 digits_in z = digits_len z + behind_len (drop (digits_len z) z)
 
-pub begins_some : (b : ℕ) (z : Text) → begins_number b (get_or z 0 0) ≡ true → 0 < digits_in (b ∷ z)
+begins_some : (b : ℕ) (z : Text) → begins_number b (get_or z 0 0) ≡ true → 0 < digits_in (b ∷ z)
 unfolding begins_number
 begins_some b z begins =
     elim (cases_Bool (is_ascii_digit b)) [
@@ -287,7 +290,7 @@ begins_some b z begins =
           omega (arith, len, behind, digits_some z both.1)
     ]
 
-digits_within : (z : Text) → digits_len z ≤ length z
+pub digits_within : (z : Text) → digits_len z ≤ length z
 digits_within z = prefix_len-le-length is_ascii_digit z
 
 mantissa_taken : (z : Text) → 0 < digits_in z → IsMantissa (take (mantissa_len z) z)
@@ -310,7 +313,14 @@ mantissa_taken z some =
           ∙ ap (λ t. t && list_all is_ascii_digit (take k u)) (list_all_take is_ascii_digit z)
           ∙ list_all_take is_ascii_digit u in
           let several : 0 < length (take a z ++ take k u) =
-          omega (arith, length-append (take a z) (take k u), front, behind, length-take-le k u (digits_within u), some) in
+          omega (
+            arith,
+            length-append (take a z) (take k u),
+            front,
+            behind,
+            some,
+            length-take-le k u (digits_within u),
+          ) in
           subst IsMantissa (sym all) (pointed (take a z) (take k u) (number_of (take a z ++ take k u) digits several))
       | inr none ↦
           let len : pointed_len y ≡ 0 = ap (λ t. cond t (1 + digits_len (drop 1 y)) 0) none in
@@ -370,7 +380,7 @@ exponent_taken (e ∷ v) =
           ap (λ n. is_exponent (take n (e ∷ v))) len
     ]
 
-pub numeral_taken : (z : Text) → 0 < digits_in z → IsNumeral (take (numeral_len z) z)
+numeral_taken : (z : Text) → 0 < digits_in z → IsNumeral (take (numeral_len z) z)
 numeral_taken z some =
     let m = mantissa_len z in
     record {
@@ -405,7 +415,8 @@ exponent_within v =
     let l = lead_len v in
     elim (cases_Bool (has_power v)) [
       | inl has ↦
-          let digit = (and_parts (eqb (get_or v 0 0) 101 || eqb (get_or v 0 0) 69) (is_ascii_digit (get_or v l 0)) has).1
+          let digit =
+          (and_parts (eqb (get_or v 0 0) 101 || eqb (get_or v 0 0) 69) (is_ascii_digit (get_or v l 0)) has).1
           in
           let len : exponent_len v ≡ l + digits_len (drop l v) = ap (λ t. cond t (l + digits_len (drop l v)) 0) has in
           omega (arith, len, digit_within v l digit, digits_within (drop l v), length-drop l v)
@@ -414,7 +425,7 @@ exponent_within v =
           omega (arith, len)
     ]
 
-pub numeral_within : (z : Text) → numeral_len z ≤ length z
+numeral_within : (z : Text) → numeral_len z ≤ length z
 numeral_within z =
     let a = digits_len z in
     let m = mantissa_len z in
@@ -460,7 +471,7 @@ slice_kept i j n z h g = ap (take (j - i)) (drop_kept i n z h) ∙ take-take (j 
 byte_past : (n i : ℕ) (z : Text) → n ≤ i → get_or (take n z) i 0 ≡ 0
 byte_past n i z h = get_or_past (take n z) i 0 (omega (arith, length-take n z))
 
-abbrev built : Text → ℕ → ℕ → ℕ → Bool → Bool → Parts
+abbrev pub built : Text → ℕ → ℕ → ℕ → Bool → Bool → Parts
 built z a b c point has =
     record {
       whole = slice_range z 0 a;
@@ -471,7 +482,7 @@ built z a b c point has =
       len = cond has (digits_end z c) b;
     }
 
-scan_built : (z : Text) → scan z ≡ built z (digits_end z 0) (mantissa_to z (digits_end z 0))
+pub scan_built : (z : Text) → scan z ≡ built z (digits_end z 0) (mantissa_to z (digits_end z 0))
     (exponent_start z (mantissa_to z (digits_end z 0))) (eqb (get_or z (digits_end z 0) 0) 46)
     (has_exponent z (mantissa_to z (digits_end z 0)))
 unfolding scan
@@ -482,16 +493,16 @@ where_true true x y z h = h refl
 where_true false x y z h = refl
 
 module _ (z : Text) where
-  abbrev pub a : ℕ
+  abbrev a : ℕ
   a = digits_end z 0
 
-  abbrev pub b : ℕ
+  abbrev b : ℕ
   b = mantissa_to z a
 
-  abbrev pub n : ℕ
+  abbrev n : ℕ
   n = power_to z b
 
-  abbrev pub t : Text
+  abbrev t : Text
   t = take n z
 
   at_most : (c : Bool) (x y : ℕ) → y ≤ x → y ≤ cond c x y
@@ -558,7 +569,7 @@ module _ (z : Text) where
       ap (λ c. (eqb c 101 || eqb c 69) && is_ascii_digit (get_or t (exponent_start t b) 0))
       (byte_past n b z (omega (arith, all))) in
       let same : built t a b (exponent_start t b) (eqb (get_or z a 0) 46) false
-          ≡ built z a b (exponent_start z b) (eqb (get_or z a 0) 46) false =
+      ≡ built z a b (exponent_start z b) (eqb (get_or z a 0) 46) false =
       λ i. record {
         whole = whole_kept i;
         point = eqb (get_or z a 0) 46;
@@ -605,7 +616,7 @@ module _ (z : Text) where
       ∙ ap (λ i. built t a b i (eqb (get_or z a 0) 46) true) start ∙ same
       ∙ sym (ap (built z a b c (eqb (get_or z a 0) 46)) has) ∙ sym (scan_built z)
 
-  pub scan_kept : scan t ≡ scan z
+  scan_kept : scan t ≡ scan z
   scan_kept =
       elim (cases_Bool (has_exponent z b)) [
         | inl has ↦ power_kept has
@@ -625,7 +636,7 @@ fraction_len z a =
       | inl p ↦
           let k = digits_len (drop (a + 1) z) in
           let len : length (cond (eqb (get_or z a 0) 46) (slice_range z (a + 1) (mantissa_to z a)) [])
-              ≡ length (take (a + 1 + k - (a + 1)) (drop (a + 1) z)) =
+          ≡ length (take (a + 1 + k - (a + 1)) (drop (a + 1) z)) =
           ap (λ t. length (cond t (take (cond t (digits_end z (a + 1)) a - (a + 1)) (drop (a + 1) z)) [])) p in
           let q : eqb (get_or (drop a z) 0 0) 46 ≡ true = sym (ap (λ c. eqb c 46) (at_front z a)) ∙ p in
           let behind : behind_len (drop a z) ≡ k = ap (λ t. cond t (digits_len (drop 1 (drop a z))) 0) q
@@ -642,12 +653,15 @@ fraction_len z a =
 scan_digits : (z : Text) → length (scan z).whole + length (scan z).fraction ≡ digits_in z
 unfolding scan
 scan_digits z =
-    let front : length (take (digits_end z 0 - 0) z) ≡ digits_len z = omega (arith, length-take (digits_end z 0 - 0) z,
-    digits_within z) in
+    let front : length (take (digits_end z 0 - 0) z) ≡ digits_len z = omega (
+      arith,
+      length-take (digits_end z 0 - 0) z,
+      digits_within z,
+    ) in
     let behind = fraction_len z (digits_end z 0) ∙ ap (λ a. behind_len (drop a z)) (digits_front z) in
     omega (arith, front, behind)
 
-scan_some : (z : Text) → 0 < digits_in z → has_digits (scan z) ≡ true
+pub scan_some : (z : Text) → 0 < digits_in z → has_digits (scan z) ≡ true
 scan_some z some = lt-ltb 0 (length (scan z).whole + length (scan z).fraction) (omega (arith, scan_digits z, some))
 
 begins_byte : (b next : ℕ) → begins_number b next ≡ true → (is_ascii_digit b || eqb b 46) ≡ true
@@ -669,7 +683,7 @@ no_minus : (b : ℕ) → (is_ascii_digit b || eqb b 46) ≡ true → eqb b 45 �
 no_minus b h = grind (arith, nat_tests)
 
 -- the number of a text that begins with neither a blank nor a sign
-number_is : (b : ℕ) (z : Text) → (is_ascii_digit b || eqb b 46) ≡ true → has_digits (scan (b ∷ z)) ≡ true
+pub number_is : (b : ℕ) (z : Text) → (is_ascii_digit b || eqb b 46) ≡ true → has_digits (scan (b ∷ z)) ≡ true
     → number (b ∷ z) ≡ value_of false (scan (b ∷ z))
 number_is b z begins has =
     ap (λ w. number_by w (scan (without_sign w)))
@@ -682,7 +696,7 @@ first_taken : (n : ℕ) (b : ℕ) (z : Text) → 0 < n → (u : Text) × (take n
 first_taken zero b z some = absurd (omega arith)
 first_taken (suc n) b z some = (take n z, refl)
 
-pub number_taken : (b : ℕ) (z : Text) → begins_number b (get_or z 0 0) ≡ true
+number_taken : (b : ℕ) (z : Text) → begins_number b (get_or z 0 0) ≡ true
     → number (take (numeral_len (b ∷ z)) (b ∷ z)) ≡ value_of false (scan (b ∷ z))
 number_taken b z begins =
     let w : Text = b ∷ z in
@@ -692,7 +706,7 @@ number_taken b z begins =
     ap number u.1 ∙ number_is b u.0 (begins_byte b (get_or z 0 0) begins) (ap has_digits same ∙ scan_some w some)
     ∙ ap (value_of false) same
 
-pub constant_at : (b : ℕ) (z : Text) → begins_number b (get_or z 0 0) ≡ true → constant (b ∷ z)
+constant_at : (b : ℕ) (z : Text) → begins_number b (get_or z 0 0) ≡ true → constant (b ∷ z)
     ≡ Some (length (take (numeral_len (b ∷ z)) (b ∷ z)), number (take (numeral_len (b ∷ z)) (b ∷ z)))
 constant_at b z begins =
     let w : Text = b ∷ z in
@@ -722,7 +736,7 @@ pub record NumeralAt (z : Text) : Type 0 where
   pub longest : (more left : Text) → rest ≡ more ++ left → IsNumeral (text ++ more) → more ≡ []
   pub constant_is : constant z ≡ Some (length text, number text)
 
-none_left : (more : Text) → length more ≡ 0 → more ≡ []
+pub none_left : (more : Text) → length more ≡ 0 → more ≡ []
 none_left [] e = refl
 none_left (c ∷ more) e = absurd (omega arith)
 

@@ -55,7 +55,8 @@ gap_no_token numbers operand Number b z rest gap h =
     gap_no_number b gap (number_byte numbers b z h)
 gap_no_token numbers operand Quoted b z rest gap h = true≢false (sym gap ∙ ap begins_gap (head_is b 34 z h.0 h.1))
 gap_no_token numbers operand Pattern b z rest gap h = true≢false (sym gap ∙ ap begins_gap (head_is b 47 z h.0 h.1))
-gap_no_token numbers operand Sign b z rest gap h = both_ways (begins_gap b) (sign_first begins_gap refl refl b z h.0) gap
+gap_no_token numbers operand Sign b z rest gap h = both_ways (begins_gap b)
+    (sign_first begins_gap refl refl b z h.0) gap
 gap_no_token numbers operand Keyword b z rest gap h = gap_no_word Keyword b z rest gap h
 gap_no_token numbers operand Builtin b z rest gap h = gap_no_word Builtin b z rest gap h
 gap_no_token numbers operand Refused b z rest gap h = gap_no_word Refused b z rest gap h
@@ -70,7 +71,8 @@ no_number_empty : (numbers : Numbers) → IsNumber numbers [] → ⊥
 no_number_empty Whole h = absurd cc
 no_number_empty Double h = numeral_some h
 
-no_token_empty : (numbers : Numbers) (operand : Bool) (kind : TokenKind) (rest : Text) → IsToken numbers operand kind [] rest → ⊥
+pub no_token_empty : (numbers : Numbers) (operand : Bool) (kind : TokenKind) (rest : Text)
+    → IsToken numbers operand kind [] rest → ⊥
 no_token_empty numbers operand Number rest h = no_number_empty numbers h
 no_token_empty numbers operand Quoted rest h = let e = h.1 in absurd cc
 no_token_empty numbers operand Pattern rest h = let e = h.1 in absurd cc
@@ -154,7 +156,8 @@ longer (b ∷ x) (c ∷ y) v w same len =
     let inner = longer x y v w (tail_is b c (x ++ v) (y ++ w) same) (omega arith) in
     (inner.0, ap (λ d. d ∷ y) (sym (head_is b c (x ++ v) (y ++ w) same)) ∙ ap (λ u. b ∷ u) inner.1, inner.2)
 
-longest_covers : (numbers : Numbers) (operand : Bool) (kind : TokenKind) (x y v w : Text) → x ++ v ≡ y ++ w → NoLonger numbers operand x v
+longest_covers : (numbers : Numbers) (operand : Bool) (kind : TokenKind) (x y v w : Text) → x ++ v ≡ y ++ w
+    → NoLonger numbers operand x v
     → IsToken numbers operand kind y w → length y ≤ length x
 longest_covers numbers operand kind x y v w same none token =
     elim (cases_lt (length y) (length x)) [
@@ -167,7 +170,8 @@ longest_covers numbers operand kind x y v w same none token =
           omega (arith, length-append x m.0)
     ]
 
-token_lengths : (numbers : Numbers) (operand : Bool) (k j : TokenKind) (x y v w : Text) → x ++ v ≡ y ++ w → IsToken numbers operand k x v
+token_lengths : (numbers : Numbers) (operand : Bool) (k j : TokenKind) (x y v w : Text) → x ++ v ≡ y ++ w
+    → IsToken numbers operand k x v
     → NoLonger numbers operand x v → IsToken numbers operand j y w → NoLonger numbers operand y w → length x ≡ length y
 token_lengths numbers operand k j x y v w same one none two other =
     let a = longest_covers numbers operand j x y v w same none two in
@@ -182,7 +186,8 @@ kind_in a_string text rest = Quoted
 kind_in a_pattern text rest = Pattern
 kind_in a_sign text rest = Sign
 
-kind_is : (numbers : Numbers) (operand : Bool) (kind : TokenKind) (text rest : Text) → IsToken numbers operand kind text rest
+kind_is : (numbers : Numbers) (operand : Bool) (kind : TokenKind) (text rest : Text)
+    → IsToken numbers operand kind text rest
     → kind_in (family_of kind) text rest ≡ kind
 kind_is numbers operand Number text rest h = refl
 kind_is numbers operand Quoted text rest h = refl
@@ -194,13 +199,16 @@ kind_is numbers operand Refused text rest h = h.1
 kind_is numbers operand Name text rest h = h.1
 kind_is numbers operand CallName text rest h = h.1
 
-same_kind : (numbers : Numbers) (operand : Bool) (k j : TokenKind) (text rest : Text) → IsToken numbers operand k text rest
+same_kind : (numbers : Numbers) (operand : Bool) (k j : TokenKind) (text rest : Text)
+    → IsToken numbers operand k text rest
     → IsToken numbers operand j text rest → k ≡ j
 same_kind numbers operand k j [] rest one two = absurd (no_token_empty numbers operand k rest one)
 same_kind numbers operand k j (b ∷ text) rest one two =
-    let family : family_of k ≡ family_of j = sym (family_told numbers operand k b text rest one) ∙ family_told numbers operand j b text
+    let family : family_of k ≡ family_of j = sym (family_told numbers operand k b text rest one)
+    ∙ family_told numbers operand j b text
     rest two in
-    sym (kind_is numbers operand k (b ∷ text) rest one) ∙ ap (λ f. kind_in f (b ∷ text) rest) family ∙ kind_is numbers operand j
+    sym (kind_is numbers operand k (b ∷ text) rest one) ∙ ap (λ f. kind_in f (b ∷ text) rest) family
+    ∙ kind_is numbers operand j
     (b ∷ text) rest two
 
 -- ---- the reading goes one way
@@ -208,7 +216,8 @@ same_kind numbers operand k j (b ∷ text) rest one two =
 -- the script goes on like this to its end, where these are all its tokens
 data ReadsOn (numbers : Numbers) : Text → List Token → Text → List Token → Type 0 where
   all_read : (front : Text) (tokens : List Token) → ReadsOn numbers front tokens [] tokens
-  on_gap : (front gap rest : Text) (tokens all : List Token) → IsGap gap rest → ReadsOn numbers (front ++ gap) tokens rest all
+  on_gap : (front gap rest : Text) (tokens all : List Token) → IsGap gap rest
+      → ReadsOn numbers (front ++ gap) tokens rest all
       → ReadsOn numbers front tokens (gap ++ rest) all
   on_token : (front text rest : Text) (tokens all : List Token) (kind : TokenKind)
       → IsFirst numbers (operand_after tokens) kind text rest
@@ -221,13 +230,15 @@ no_gap_empty gap rest h same =
     let whole : [] ≡ g.byte ∷ (g.others ++ rest) = same ∙ ap (λ w. w ++ rest) g.is in
     absurd cc
 
-no_token_at_end : (numbers : Numbers) (operand : Bool) (kind : TokenKind) (text rest : Text) → IsToken numbers operand kind text rest
+no_token_at_end : (numbers : Numbers) (operand : Bool) (kind : TokenKind) (text rest : Text)
+    → IsToken numbers operand kind text rest
     → [] ≡ text ++ rest → ⊥
 no_token_at_end numbers operand kind [] rest h same = no_token_empty numbers operand kind rest h
 no_token_at_end numbers operand kind (b ∷ text) rest h same = absurd cc
 
 -- behind a separator
-past_gap : (numbers : Numbers) (front z gap rest : Text) (tokens all : List Token) → ReadsOn numbers front tokens z all → z ≡ gap ++ rest
+past_gap : (numbers : Numbers) (front z gap rest : Text) (tokens all : List Token)
+    → ReadsOn numbers front tokens z all → z ≡ gap ++ rest
     → IsGap gap rest → ReadsOn numbers (front ++ gap) tokens rest all
 past_gap numbers _ _ gap rest _ _ (all_read front tokens) same h = absurd (no_gap_empty gap rest h same)
 past_gap numbers _ _ gap rest _ _ (on_gap front g r tokens all is more) same h =
@@ -238,7 +249,8 @@ past_gap numbers _ _ gap rest _ _ (on_token front text r tokens all kind first m
     absurd (gap_or_token numbers (operand_after tokens) kind gap rest text r h (sym same) first.token)
 
 -- behind a token
-past_token : (numbers : Numbers) (front z text rest : Text) (tokens all : List Token) (kind : TokenKind) → ReadsOn numbers front tokens z all
+past_token : (numbers : Numbers) (front z text rest : Text) (tokens all : List Token) (kind : TokenKind)
+    → ReadsOn numbers front tokens z all
     → z ≡ text ++ rest → IsFirst numbers (operand_after tokens) kind text rest
     → ReadsOn numbers (front ++ text) (tokens ++ token_of front kind text ∷ []) rest all
 past_token numbers _ _ text rest _ _ kind (all_read front tokens) same h =
@@ -259,42 +271,52 @@ past_token numbers _ _ text rest _ _ kind (on_token front t r tokens all k first
     (subst (λ w. ReadsOn numbers (front ++ text) (tokens ++ token_of front k text ∷ []) w all) rests a)
 
 -- what is read of a script stands on the way to its end
-follow : (numbers : Numbers) (script front rest : Text) (tokens all : List Token) → ReadsTo numbers front tokens rest → script ≡ front ++ rest
+follow : (numbers : Numbers) (script front rest : Text) (tokens all : List Token) → ReadsTo numbers front tokens rest
+    → script ≡ front ++ rest
     → ReadsOn numbers [] [] script all → ReadsOn numbers front tokens rest all
 follow numbers script _ _ _ all (begun z) same on = subst (λ w. ReadsOn numbers [] [] w all) same on
 follow numbers script _ _ _ all (a_gap front gap rest tokens before h) same on =
-    past_gap numbers front (gap ++ rest) gap rest tokens all (follow numbers script front (gap ++ rest) tokens all before
+    past_gap numbers front (gap ++ rest) gap rest tokens all
+    (follow numbers script front (gap ++ rest) tokens all before
     (same ∙ append_assoc front gap rest) on) refl h
 follow numbers script _ _ _ all (a_token front text rest tokens kind before h) same on =
-    past_token numbers front (text ++ rest) text rest tokens all kind (follow numbers script front (text ++ rest) tokens all before
+    past_token numbers front (text ++ rest) text rest tokens all kind
+    (follow numbers script front (text ++ rest) tokens all before
     (same ∙ append_assoc front text rest) on) refl h
 
 -- the way from the start of a script
-way : (numbers : Numbers) (front rest : Text) (tokens all : List Token) → ReadsTo numbers front tokens rest → ReadsOn numbers front tokens rest all
+way : (numbers : Numbers) (front rest : Text) (tokens all : List Token) → ReadsTo numbers front tokens rest
+    → ReadsOn numbers front tokens rest all
     → ReadsOn numbers [] [] (front ++ rest) all
 way numbers _ _ _ all (begun z) on = on
 way numbers _ _ _ all (a_gap front gap rest tokens before h) on =
-    subst (λ w. ReadsOn numbers [] [] w all) (sym (append_assoc front gap rest)) (way numbers front (gap ++ rest) tokens all before
+    subst (λ w. ReadsOn numbers [] [] w all) (sym (append_assoc front gap rest))
+    (way numbers front (gap ++ rest) tokens all before
     (on_gap front gap rest tokens all h on))
 way numbers _ _ _ all (a_token front text rest tokens kind before h) on =
-    subst (λ w. ReadsOn numbers [] [] w all) (sym (append_assoc front text rest)) (way numbers front (text ++ rest) tokens all before
+    subst (λ w. ReadsOn numbers [] [] w all) (sym (append_assoc front text rest))
+    (way numbers front (text ++ rest) tokens all before
     (on_token front text rest tokens all kind h on))
 
-way_of : (numbers : Numbers) (script : Text) (tokens : List Token) → Reads numbers script tokens → ReadsOn numbers [] [] script tokens
+way_of : (numbers : Numbers) (script : Text) (tokens : List Token) → Reads numbers script tokens
+    → ReadsOn numbers [] [] script tokens
 way_of numbers script tokens h = subst (λ w. ReadsOn numbers [] [] w tokens) (append-nil script)
     (way numbers script [] tokens tokens h (all_read script tokens))
 
-at_its_end : (numbers : Numbers) (front z : Text) (tokens all : List Token) → ReadsOn numbers front tokens z all → z ≡ [] → all ≡ tokens
+at_its_end : (numbers : Numbers) (front z : Text) (tokens all : List Token) → ReadsOn numbers front tokens z all
+    → z ≡ [] → all ≡ tokens
 at_its_end numbers _ _ _ _ (all_read front tokens) same = refl
 at_its_end numbers _ _ _ _ (on_gap front g r tokens all is more) same = absurd (no_gap_empty g r is (sym same))
 at_its_end numbers _ _ _ _ (on_token front t r tokens all kind first more) same =
     absurd (no_token_at_end numbers (operand_after tokens) kind t r first.token (sym same))
 
 -- two readings of one script are the same
-pub read_once : (numbers : Numbers) (script : Text) (tokens others : List Token) → Reads numbers script tokens → Reads numbers script others
+pub read_once : (numbers : Numbers) (script : Text) (tokens others : List Token) → Reads numbers script tokens
+    → Reads numbers script others
     → others ≡ tokens
 read_once numbers script tokens others one two =
-    at_its_end numbers script [] tokens others (follow numbers script script [] tokens others one (sym (append-nil script))
+    at_its_end numbers script [] tokens others
+    (follow numbers script script [] tokens others one (sym (append-nil script))
     (way_of numbers script others two)) refl
 
 -- ---- where a refusal stands nothing can be read
@@ -327,7 +349,8 @@ stray_no_number Double z b text rest s same h =
     second [] digit = absurd cc
     second (c ∷ text) digit = digit
 
-stray_no_token : (numbers : Numbers) (operand : Bool) (kind : TokenKind) (z text rest : Text) → IsStray z → z ≡ text ++ rest
+stray_no_token : (numbers : Numbers) (operand : Bool) (kind : TokenKind) (z text rest : Text) → IsStray z
+    → z ≡ text ++ rest
     → IsToken numbers operand kind text rest → ⊥
 stray_no_token numbers operand kind z [] rest s same h = no_token_empty numbers operand kind rest h
 stray_no_token numbers operand Number z (b ∷ text) rest s same h =
@@ -337,7 +360,8 @@ stray_no_token numbers operand Quoted z (b ∷ text) rest s same h =
 stray_no_token numbers operand Pattern z (b ∷ text) rest s same h =
     let is : z ≡ (47 ∷ []) ++ (text ++ rest) = same ∙ ap (λ c. c ∷ (text ++ rest)) (head_is b 47 text h.0 h.1) in
     true≢false (s.no_sign (47 ∷ []) (text ++ rest) is)
-stray_no_token numbers operand Sign z (b ∷ text) rest s same h = both_ways (is_sign (b ∷ text)) (s.no_sign (b ∷ text) rest same)
+stray_no_token numbers operand Sign z (b ∷ text) rest s same h = both_ways (is_sign (b ∷ text))
+    (s.no_sign (b ∷ text) rest same)
     h.0
 stray_no_token numbers operand Keyword z (b ∷ text) rest s same h = stray_no_word Keyword z b text rest s same h
 stray_no_token numbers operand Builtin z (b ∷ text) rest s same h = stray_no_word Builtin z b text rest s same h
@@ -352,7 +376,8 @@ gap_not p z gap rest not_gap h same =
     let whole : p ∷ z ≡ g.byte ∷ (g.others ++ rest) = same ∙ ap (λ w. w ++ rest) g.is in
     both_ways (begins_gap p) not_gap (ap begins_gap (head_is p g.byte z (g.others ++ rest) whole) ∙ g.begins)
 
-stands_no_gap : (numbers : Numbers) (operand : Bool) (code : ℕ) (z gap rest : Text) → Stands numbers operand code z → z ≡ gap ++ rest
+stands_no_gap : (numbers : Numbers) (operand : Bool) (code : ℕ) (z gap rest : Text) → Stands numbers operand code z
+    → z ≡ gap ++ rest
     → IsGap gap rest → ⊥
 stands_no_gap numbers _ _ _ gap rest (stray operand z s) same h = s.no_gap gap rest same h
 stands_no_gap numbers _ _ _ gap rest (open_string operand z open_here) same h = gap_not 34 z gap rest refl h same
@@ -366,24 +391,27 @@ string_told : (numbers : Numbers) (operand : Bool) (kind : TokenKind) (z text re
 string_told numbers operand kind z [] rest same h = absurd (no_token_empty numbers operand kind rest h)
 string_told numbers operand kind z (b ∷ text) rest same h =
     let is34 : b ≡ 34 = sym (head_is 34 b z (text ++ rest) same) in
-    let family : family_of kind ≡ a_string = sym (family_told numbers operand kind b text rest h) ∙ ap (family_at numbers operand) is34
+    let family : family_of kind ≡ a_string = sym (family_told numbers operand kind b text rest h)
+    ∙ ap (family_at numbers operand) is34
     in
     let q = as_string numbers operand kind (b ∷ text) rest family h in
     subst (λ w. StringEnds w rest) (ap (λ w. w ++ rest) (sym (tail_is b 34 text q.0 q.1))
     ∙ sym (tail_is 34 b z (text ++ rest) same)) q.2
 
-pattern_told : (numbers : Numbers) (kind : TokenKind) (z text rest : Text) → 47 ∷ z ≡ text ++ rest → IsToken numbers true kind text rest
+pattern_told : (numbers : Numbers) (kind : TokenKind) (z text rest : Text) → 47 ∷ z ≡ text ++ rest
+    → IsToken numbers true kind text rest
     → PatternEnds Outside z rest
 pattern_told numbers kind z [] rest same h = absurd (no_token_empty numbers true kind rest h)
 pattern_told numbers kind z (b ∷ text) rest same h =
     let is47 : b ≡ 47 = sym (head_is 47 b z (text ++ rest) same) in
-    let family : family_of kind ≡ a_pattern = sym (family_told numbers true kind b text rest h) ∙ ap (family_at numbers true) is47 in
+    let family : family_of kind ≡ a_pattern = sym (family_told numbers true kind b text rest h)
+    ∙ ap (family_at numbers true) is47 in
     let q = as_pattern numbers true kind (b ∷ text) rest family h in
     subst (λ w. PatternEnds Outside w rest) (ap (λ w. w ++ rest) (sym (tail_is b 47 text q.0 q.1))
     ∙ sym (tail_is 47 b z (text ++ rest) same)) q.3
 
 -- whole numbers have no point
-point_no_token : (operand : Bool) (kind : TokenKind) (z text rest : Text) → 46 ∷ z ≡ text ++ rest
+pub point_no_token : (operand : Bool) (kind : TokenKind) (z text rest : Text) → 46 ∷ z ≡ text ++ rest
     → IsToken Whole operand kind text rest → ⊥
 point_no_token operand kind z [] rest same h = no_token_empty Whole operand kind rest h
 point_no_token operand kind z (b ∷ text) rest same h =
@@ -393,9 +421,11 @@ point_no_token operand kind z (b ∷ text) rest same h =
     let sign_is = as_sign Whole operand kind (b ∷ text) rest family h in
     both_ways (eqb b 46) (sign_first (λ c. eqb c 46) refl refl b text sign_is) (eq-eqb b 46 is46)
 
-stands_no_token : (numbers : Numbers) (operand : Bool) (code : ℕ) (kind : TokenKind) (z text rest : Text) → Stands numbers operand code z
+stands_no_token : (numbers : Numbers) (operand : Bool) (code : ℕ) (kind : TokenKind) (z text rest : Text)
+    → Stands numbers operand code z
     → z ≡ text ++ rest → IsFirst numbers operand kind text rest → ⊥
-stands_no_token numbers _ _ kind _ text rest (stray operand z s) same h = stray_no_token numbers operand kind z text rest s same h.token
+stands_no_token numbers _ _ kind _ text rest (stray operand z s) same h =
+    stray_no_token numbers operand kind z text rest s same h.token
 stands_no_token numbers _ _ kind _ text rest (open_string operand z open_here) same h =
     open_here rest (string_told numbers operand kind z text rest same h.token)
 stands_no_token numbers _ _ kind _ text rest (open_pattern z open_here) same h =
@@ -412,7 +442,8 @@ stands_no_token numbers _ _ kind _ text rest (no_constant operand t r token none
 stands_no_token numbers _ _ kind _ text rest (point operand b z whole digit) same h =
     point_no_token operand kind (b ∷ z) text rest same (subst (λ n. IsToken n operand kind text rest) whole h.token)
 
-stands_not_at_end : (numbers : Numbers) (operand : Bool) (code : ℕ) (z : Text) → Stands numbers operand code z → z ≡ [] → ⊥
+stands_not_at_end : (numbers : Numbers) (operand : Bool) (code : ℕ) (z : Text) → Stands numbers operand code z
+    → z ≡ [] → ⊥
 stands_not_at_end numbers _ _ _ (stray operand z s) same = s.byte same
 stands_not_at_end numbers _ _ _ (open_string operand z open_here) same = absurd cc
 stands_not_at_end numbers _ _ _ (open_pattern z open_here) same = absurd cc
@@ -420,16 +451,20 @@ stands_not_at_end numbers _ _ _ (no_constant operand text rest token none consta
     no_token_at_end numbers operand Number text rest token (sym same)
 stands_not_at_end numbers _ _ _ (point operand b z whole digit) same = absurd cc
 
-no_way_on : (numbers : Numbers) (front z : Text) (tokens all : List Token) (code : ℕ) → ReadsOn numbers front tokens z all
+no_way_on : (numbers : Numbers) (front z : Text) (tokens all : List Token) (code : ℕ)
+    → ReadsOn numbers front tokens z all
     → Stands numbers (operand_after tokens) code z → ⊥
-no_way_on numbers _ _ _ _ code (all_read front tokens) stands = stands_not_at_end numbers (operand_after tokens) code [] stands refl
-no_way_on numbers _ _ _ _ code (on_gap front gap rest tokens all is more) stands = stands_no_gap numbers (operand_after tokens) code
+no_way_on numbers _ _ _ _ code (all_read front tokens) stands = stands_not_at_end numbers
+    (operand_after tokens) code [] stands refl
+no_way_on numbers _ _ _ _ code (on_gap front gap rest tokens all is more) stands = stands_no_gap numbers
+    (operand_after tokens) code
     (gap ++ rest) gap rest stands refl is
 no_way_on numbers _ _ _ _ code (on_token front text rest tokens all kind first more) stands =
     stands_no_token numbers (operand_after tokens) code kind (text ++ rest) text rest stands refl first
 
 -- a script that is refused has no reading
-pub refused_unread : (numbers : Numbers) (script : Text) (code : ℕ) (place : Place) (tokens : List Token) → Refuses numbers script code place
+pub refused_unread : (numbers : Numbers) (script : Text) (code : ℕ) (place : Place) (tokens : List Token)
+    → Refuses numbers script code place
     → Reads numbers script tokens → ⊥
 refused_unread numbers script code place tokens refused read =
     no_way_on numbers refused.front refused.rest refused.tokens tokens code

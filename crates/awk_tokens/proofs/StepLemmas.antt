@@ -19,7 +19,8 @@ use Rattle.awk_tokens.proofs.FirstLemmas.{First}
 use Rattle.awk_tokens.proofs.GapLemmas.{Gap, gap_found}
 
 -- so much of the script is read as these tokens
-pub record At (numbers : Numbers) (script : Text) (start : ℕ) (place : Place) (operand : Bool) (tokens : List Token) : Type 0 where
+pub record At (numbers : Numbers) (script : Text) (start : ℕ) (place : Place) (operand : Bool)
+    (tokens : List Token) : Type 0 where
   pub front : Text
   pub rest : Text
   pub parts : script ≡ front ++ rest
@@ -57,7 +58,8 @@ rest_is : (numbers : Numbers) (script : Text) (start : ℕ) (place : Place) (ope
 rest_is numbers script start place operand tokens at = ap (λ n. drop n script) at.start_is ∙ ap (drop (length at.front))
     at.parts ∙ drop-append_seam at.front at.rest
 
-pub gap_step : (numbers : Numbers) (script : Text) (start : ℕ) (place : Place) (operand : Bool) (tokens : List Token) (n : ℕ)
+pub gap_step : (numbers : Numbers) (script : Text) (start : ℕ) (place : Place) (operand : Bool) (tokens : List Token)
+    (n : ℕ)
     (after : Place) → At numbers script start place operand tokens → gap_len (drop start script) ≡ n → n ≢ 0
     → ((front : Text) → place ≡ place_after front → after ≡ place_after (front ++ take n (drop start script)))
     → At numbers script (start + n) after operand tokens
@@ -80,11 +82,14 @@ gap_step numbers script start place operand tokens n after at len some placed =
 token_text : (front text : Text) (t : Token) → t ≡ token_of front t.kind text → t.end ≡ place_after (front ++ text)
 token_text front text t e = ap (λ u. u.end) e
 
-pub token_step : (numbers : Numbers) (script : Text) (start : ℕ) (place : Place) (operand : Bool) (tokens : List Token) (token : Token)
-    (len : ℕ) → At numbers script start place operand tokens → IsNext numbers operand (drop start script) start place token len
+pub token_step : (numbers : Numbers) (script : Text) (start : ℕ) (place : Place) (operand : Bool)
+    (tokens : List Token) (token : Token)
+    (len : ℕ) → At numbers script start place operand tokens
+    → IsNext numbers operand (drop start script) start place token len
     → At numbers script (start + len) token.end (not (ends_operand token.kind token.text)) (tokens ++ token ∷ [])
 token_step numbers script start place operand tokens token len at next =
-    let whole : at.rest ≡ next.text ++ next.rest = sym (rest_is numbers script start place operand tokens at) ∙ next.parts in
+    let whole : at.rest ≡ next.text ++ next.rest = sym (rest_is numbers script start place operand tokens at)
+    ∙ next.parts in
     let is : token ≡ token_of at.front token.kind next.text = next.token_is at.front at.start_is at.place_is in
     let first : IsFirst numbers (operand_after tokens) token.kind next.text next.rest =
     subst (λ o. IsFirst numbers o token.kind next.text next.rest) at.operand_is next.first in
@@ -95,14 +100,17 @@ token_step numbers script start place operand tokens token len at next =
       start_is = ap (λ k. k + len) at.start_is ∙ ap (λ k. length at.front + k) next.len_is
           ∙ sym (length-append at.front next.text);
       read = subst (λ t. ReadsTo numbers (at.front ++ next.text) (tokens ++ t ∷ []) next.rest) (sym is)
-          (a_token at.front next.text next.rest tokens token.kind (subst (λ w. ReadsTo numbers at.front tokens w) whole at.read)
+          (a_token at.front next.text next.rest tokens token.kind
+          (subst (λ w. ReadsTo numbers at.front tokens w) whole at.read)
           first);
       place_is = token_text at.front next.text token is;
       operand_is = sym (fold_push (λ before t. not (ends_operand t.kind t.text)) true tokens token);
     }
 
-pub step_within : (numbers : Numbers) (script : Text) (start : ℕ) (place : Place) (operand : Bool) (tokens : List Token) (token : Token)
-    (len : ℕ) → At numbers script start place operand tokens → IsNext numbers operand (drop start script) start place token len
+pub step_within : (numbers : Numbers) (script : Text) (start : ℕ) (place : Place) (operand : Bool)
+    (tokens : List Token) (token : Token)
+    (len : ℕ) → At numbers script start place operand tokens
+    → IsNext numbers operand (drop start script) start place token len
     → start + len ≤ length script
 step_within numbers script start place operand tokens token len at next = within numbers script (start + len) token.end
     (not (ends_operand token.kind token.text)) (tokens ++ token ∷ [])
@@ -121,7 +129,8 @@ at_end numbers script start place operand tokens at all =
     empty_is [] e = refl
     empty_is (b ∷ z) e = absurd (omega arith)
 
-pub at_fault : (numbers : Numbers) (script : Text) (start : ℕ) (place found : Place) (operand : Bool) (tokens : List Token) (code : ℕ)
+pub at_fault : (numbers : Numbers) (script : Text) (start : ℕ) (place found : Place) (operand : Bool)
+    (tokens : List Token) (code : ℕ)
     → At numbers script start place operand tokens → Stands numbers operand code (drop start script) → found ≡ place
     → Refuses numbers script code found
 at_fault numbers script start place found operand tokens code at stands same =
@@ -148,13 +157,15 @@ token_same kind t t' s s' p p' e e' a b c d =
     ∙ ap (token_with kind t' s' p') d
 
 -- the token that stands first lies within the text
-pub first_within : (numbers : Numbers) (operand : Bool) (z : Text) (kind : TokenKind) (n : ℕ) → First numbers operand z kind n → n ≤ length z
+pub first_within : (numbers : Numbers) (operand : Bool) (z : Text) (kind : TokenKind) (n : ℕ)
+    → First numbers operand z kind n → n ≤ length z
 first_within numbers operand z kind n first =
     let len = ap length first.parts in
     let text_len = first.len_is in
     omega (arith, length-append first.text first.rest)
 
-pub next_made : (numbers : Numbers) (operand : Bool) (z : Text) (start : ℕ) (place end : Place) (kind : TokenKind) (n : ℕ) (text : Text)
+pub next_made : (numbers : Numbers) (operand : Bool) (z : Text) (start : ℕ) (place end : Place) (kind : TokenKind)
+    (n : ℕ) (text : Text)
     → First numbers operand z kind n → text ≡ text_of kind (take n z)
     → ((front : Text) → place ≡ place_after front → end ≡ place_after (front ++ take n z))
     → IsNext numbers operand z start place (token_with kind text start place end) n

@@ -10,7 +10,7 @@ use Rattle.awk_tokens.specs.declared.token.Token.{Token}
 
 -- the token is the first of the text, of this length, where the text stands at this start and place
 pub record IsNext (numbers : Numbers) (operand : Bool) (z : Text) (start : ℕ) (place : Place) (token : Token) (len : ℕ)
-  : Type 0 where
+    : Type 0 where
   pub text : Text
   pub rest : Text
   pub parts : z ≡ text ++ rest

@@ -19,4 +19,5 @@ pub record Spells (text : List ℕ) (items : List Entry) (script : Script) : Typ
 -- S1 to S3 stand in the text where they say, and else the tokens of the text are refused so; S9 is want of memory
 abbrev pub IsScriptRefused : List ℕ → SyntaxError → Type 0
 IsScriptRefused text e =
-    e.code ≢ 9 → Refuses Whole text e.code e.place ⊎ ((tokens : List Token) × Reads Whole text tokens × IsRefused tokens e)
+    e.code ≢ 9 → Refuses Whole text e.code e.place ⊎
+    ((tokens : List Token) × Reads Whole text tokens × IsRefused tokens e)

@@ -23,5 +23,5 @@ returns-clause-read c =
     let z = c.args.rest.now in
     let found = c.in-Ok.found in
     let first = first_found c.args.numbers c.args.operand z found.0 found.1 c.requires.some (sym c.in-Ok.ensures) in
-    next_made c.args.numbers c.args.operand z c.args.start c.args.place c.place_after-end.result found.0 found.1 c.in-Ok-text_of.text
-    first c.in-Ok-text_of.ensures c.place_after-end.ensures
+    next_made c.args.numbers c.args.operand z c.args.start c.args.place c.place_after-end.result found.0 found.1
+    c.in-Ok-text_of.text first c.in-Ok-text_of.ensures c.place_after-end.ensures

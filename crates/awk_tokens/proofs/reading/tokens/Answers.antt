@@ -46,7 +46,8 @@ loop-start-preserved c =
 pub returns-clause-only : goal.returns-clause-only
 returns-clause-only c =
     let at = c.loop-start in
-    let read = at_end c.args.numbers c.args.script.now at.start at.place at.operand at.found.items at.invariant (omega arith) in
+    let read = at_end c.args.numbers c.args.script.now at.start at.place at.operand at.found.items at.invariant
+    (omega arith) in
     λ others. read_once c.args.numbers c.args.script.now at.found.items others read
 
 pub returns-in_err-token-clause-unread : goal.returns-in_err-token-clause-unread
@@ -54,7 +55,8 @@ returns-in_err-token-clause-unread c =
     let script = c.args.script.now in
     let at = c.loop-start in
     let e = c.in_err-token.field-0.0 in
-    let told : (e.code ≢ 9 → Stands c.args.numbers at.operand e.code _) × (e.place ≡ at.place) = c.in_err-token.ensures.refused in
+    let told : (e.code ≢ 9 → Stands c.args.numbers at.operand e.code _) × (e.place ≡ at.place) =
+    c.in_err-token.ensures.refused in
     let rest : e.code ≢ 9 → IsUnread c.args.numbers script =
     λ other tokens.
     refused_unread c.args.numbers script e.code e.place tokens
