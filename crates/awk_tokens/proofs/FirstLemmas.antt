@@ -1,14 +1,13 @@
 -- The scan of a token finds the longest one that stands first, or a refusal that stands there.
-use Rattle.std.proofs.Common.{◌≡◌, ◌≢◌, ℕ, zero, suc, ◌+◌, ◌-◌, ◌<◌, ◌≤◌, Bool, true, false, not, ◌&&◌, ◌||◌, cond, eqb}
-use Rattle.std.proofs.Common.{List, [], ◌∷◌, ◌++◌, length, take, drop, get_or, slice_index, Option, Some, None}
+use Rattle.std.proofs.Common.{◌≡◌, ◌≢◌, ℕ, suc, ◌+◌, ◌-◌, ◌<◌, Bool, true, false, ◌&&◌, ◌||◌, cond, eqb}
+use Rattle.std.proofs.Common.{[], ◌∷◌, ◌++◌, length, take, drop, get_or, slice_index, Option, Some, None}
 use Rattle.std.proofs.Common.{option_map, Result, Ok, Err, is_ok, ◌⊎◌, sym, ap, refl, subst, ◌∙◌, inl, inr, arith}
-use Rattle.std.specs.Char.{is_ascii_digit, is_ascii_alphabetic}
-use Rattle.std.specs.List.{list_all, list_any, prefix_len}
-use Rattle.std.proofs.Math.Seq.{take-append_seam, drop-append_seam}
-use Rattle.std.proofs.lemmas.Bool.{cases_Bool, eqb-true, eqb-false, and_parts, and_cases, both_ways, eq-eqb}
+use Rattle.std.specs.Char.{is_ascii_digit}
+use Rattle.std.specs.List.{list_all, prefix_len}
+use Rattle.std.proofs.lemmas.Bool.{cases_Bool, eqb-true, eqb-false, and_parts, both_ways, eq-eqb}
 use Rattle.std.proofs.lemmas.Bool.{false_from_ne_true, or_parts, true≢false, false≢true}
 use Rattle.std.proofs.lemmas.Bool.Decides.{nat_tests}
-use Rattle.std.proofs.lemmas.List.{append_assoc, append-nil, take-append-drop, length-append, length-take-le}
+use Rattle.std.proofs.lemmas.List.{append_assoc, take-append-drop, length-append, length-take-le}
 use Rattle.std.proofs.lemmas.List.Folds.{list_all-append}
 use Rattle.std.proofs.lemmas.List.Sums.{prefix_len-le-length}
 use Rattle.awk_numbers.specs.Numerals.{constant, number as number_of_text}
@@ -17,7 +16,7 @@ use Rattle.awk_numbers.specs.declared.number.NumberFault.{NumberFault}
 use Rattle.awk_numbers.specs.declared.number.Numbers.{Numbers}
 use Rattle.awk_numbers.specs.declared.number.Numbers.TheVariants.{Whole, Double}
 use Rattle.awk_tokens.specs.Bytes.{Text, begins_name, continues_name}
-use Rattle.awk_tokens.specs.Signs.{singles, doubles, is_single, is_double, is_sign, sign_len}
+use Rattle.awk_tokens.specs.Signs.{is_single, is_double, is_sign, sign_len}
 use Rattle.awk_tokens.specs.Words.{is_name, word_kind, kind_of, kind_or, lookup, words}
 use Rattle.awk_tokens.specs.declared.terminals.Terminal.{Terminal}
 use Rattle.awk_tokens.specs.declared.terminals.Terminal.TheVariants as listed
@@ -25,7 +24,7 @@ use Rattle.awk_tokens.specs.Strings.{StringEnds}
 use Rattle.awk_tokens.specs.Patterns.{PatternEnds}
 use Rattle.awk_tokens.specs.Tokens.{is_number, IsMantissa, whole, pointed, IsNumeral, IsNumber, IsToken, IsWord}
 use Rattle.awk_tokens.specs.Tokens.{NoLonger, is_whole, IsConstant, IsFirst}
-use Rattle.awk_tokens.specs.Reads.{IsGap, IsStray, Stands, stray, open_string, open_pattern, no_constant, point}
+use Rattle.awk_tokens.specs.Reads.{IsStray, Stands, stray, open_string, open_pattern, no_constant, point}
 use Rattle.awk_tokens.specs.Scan as scan
 use Rattle.awk_tokens.specs.Scan.{Scanned, digits_len, name_len, string_rest, pattern_rest, closed, word, sign}
 use Rattle.awk_tokens.specs.Scan.{begins_number, first_token, gap_len}

@@ -1,11 +1,11 @@
 -- A script is read in one way at most, and not at all where it is refused.
-use Rattle.std.proofs.Common.{◌≡◌, ◌≢◌, ℕ, zero, suc, ◌+◌, ◌<◌, ◌≤◌, Bool, true, false, not, ◌&&◌, ◌||◌, cond, eqb}
-use Rattle.std.proofs.Common.{List, [], ◌∷◌, ◌++◌, length, take, drop, get_or, slice_index, sym, ap, refl, subst, ◌∙◌}
-use Rattle.std.proofs.Common.{◌⊎◌, inl, inr, arith}
+use Rattle.std.proofs.Common.{◌≡◌, ◌≢◌, ℕ, suc, ◌+◌, ◌≤◌, Bool, true, false, not, ◌||◌, cond, eqb}
+use Rattle.std.proofs.Common.{List, [], ◌∷◌, ◌++◌, length, take, drop, slice_index, sym, ap, refl, subst, ◌∙◌}
+use Rattle.std.proofs.Common.{inl, inr, arith}
 use Rattle.std.specs.Char.{is_ascii_digit}
-use Rattle.std.specs.List.{list_all, prefix_len}
+use Rattle.std.specs.List.{list_all}
 use Rattle.std.proofs.Math.Seq.{take-append_seam, drop-append_seam}
-use Rattle.std.proofs.lemmas.Bool.{cases_lt, eqb-true, and_parts, both_ways, or_left, or_right, eq-eqb, not_from_true}
+use Rattle.std.proofs.lemmas.Bool.{cases_lt, and_parts, both_ways, or_left, eq-eqb}
 use Rattle.std.proofs.lemmas.Bool.{true≢false}
 use Rattle.std.proofs.lemmas.Bool.Decides.{nat_tests}
 use Rattle.std.proofs.lemmas.List.{append_assoc, append-nil, length-append}
@@ -14,7 +14,7 @@ use Rattle.awk_numbers.specs.declared.number.Numbers.TheVariants.{Whole, Double}
 use Rattle.awk_text.specs.declared.place.Place.{Place}
 use Rattle.awk_tokens.specs.Bytes.{Text, is_blank, begins_name, continues_name}
 use Rattle.awk_tokens.specs.Signs.{is_sign}
-use Rattle.awk_tokens.specs.Words.{is_name, word_kind}
+use Rattle.awk_tokens.specs.Words.{word_kind}
 use Rattle.awk_tokens.specs.Strings.{StringEnds}
 use Rattle.awk_tokens.specs.Patterns.{PatternEnds}
 use Rattle.awk_tokens.specs.Tokens.{IsNumber, IsToken, IsWord, NoLonger, is_constant, IsConstant, IsFirst}

@@ -1,14 +1,14 @@
 -- What is read in profile whole is read so in profile double.
-use Rattle.std.proofs.Common.{◌≡◌, ℕ, zero, suc, ◌+◌, ◌-◌, ◌*◌, ◌^◌, ◌<◌, ◌≤◌, Bool, true, false, not, ◌&&◌, ◌||◌, cond}
-use Rattle.std.proofs.Common.{eqb, T, List, [], ◌∷◌, ◌++◌, length, take, drop, get_or, slice_index, fold, nat_le}
+use Rattle.std.proofs.Common.{◌≡◌, ℕ, ◌+◌, ◌-◌, ◌*◌, ◌^◌, ◌<◌, ◌≤◌, Bool, true, false, not, ◌&&◌, ◌||◌, cond}
+use Rattle.std.proofs.Common.{eqb, T, List, [], ◌∷◌, ◌++◌, length, take, drop, get_or, fold, nat_le}
 use Rattle.std.proofs.Common.{Result, is_ok, Ok, sym, ap, refl, subst, ◌∙◌, ◌⊎◌, inl, inr, arith}
 use Rattle.std.specs.Char.{is_ascii_digit, digit_value}
-use Rattle.std.specs.List.{list_all, prefix_len}
+use Rattle.std.specs.List.{list_all}
 use Rattle.std.specs.Float.{Float, binary64, nan, inf, fin, float_is_finite}
 use Rattle.std.specs.Str.Parse.{digits_value_after}
 use Rattle.std.proofs.Math.Seq.{drop-append_seam}
-use Rattle.std.proofs.lemmas.Bool.{and_parts, both_ways, cases_Bool, eqb-true, eq-eqb, leb-true, not-false, or_right}
-use Rattle.std.proofs.lemmas.Bool.{not_from_true, false≢true}
+use Rattle.std.proofs.lemmas.Bool.{and_parts, both_ways, cases_Bool, eqb-true, leb-true}
+use Rattle.std.proofs.lemmas.Bool.{false≢true}
 use Rattle.std.proofs.lemmas.Bool.Decides.{nat_tests}
 use Rattle.std.proofs.lemmas.List.{append_assoc, append-nil, get_or_past, length-append, take_all}
 use Rattle.std.proofs.lemmas.List.Folds.{list_all-append}
@@ -30,9 +30,9 @@ use Rattle.awk_tokens.specs.declared.token.Token.{Token}
 use Rattle.awk_tokens.specs.declared.kinds.TokenKind.{TokenKind}
 use Rattle.awk_tokens.specs.declared.kinds.TokenKind.TheVariants.{Number, Quoted, Pattern, Keyword, Builtin, Refused}
 use Rattle.awk_tokens.specs.declared.kinds.TokenKind.TheVariants.{Name, CallName, Sign}
-use Rattle.awk_tokens.proofs.FirstLemmas.{Family, a_number, family_of, family_at, other_family, family_told, as_number}
+use Rattle.awk_tokens.proofs.FirstLemmas.{a_number, family_of, family_at, other_family, family_told, as_number}
 use Rattle.awk_tokens.proofs.NumeralLemmas.{pointed_len, mantissa_len, mantissa_to, exponent_len, numeral_len, is_signed}
-use Rattle.awk_tokens.proofs.NumeralLemmas.{lead_len, has_power, one_order, one_up, number_all, run_over, digits_within}
+use Rattle.awk_tokens.proofs.NumeralLemmas.{lead_len, has_power, one_order, one_up, number_all}
 use Rattle.awk_tokens.proofs.NumeralLemmas.{numeral_covers, none_left, digits_in, built, scan_built, scan_some, number_is}
 use Rattle.awk_tokens.proofs.Once.{no_token_empty, point_no_token}
 

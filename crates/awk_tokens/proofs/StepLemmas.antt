@@ -1,6 +1,6 @@
 -- The state of the reading, and what a separator and a token make of it.
-use Rattle.std.proofs.Common.{◌≡◌, ◌≢◌, ℕ, ◌+◌, ◌-◌, ◌<◌, ◌≤◌, Bool, true, false, not, List, [], ◌∷◌, ◌++◌, length}
-use Rattle.std.proofs.Common.{take, drop, fold, sym, ap, refl, subst, ◌∙◌, inl, inr, arith}
+use Rattle.std.proofs.Common.{◌≡◌, ◌≢◌, ℕ, ◌+◌, ◌-◌, ◌≤◌, Bool, true, not, List, [], ◌∷◌, ◌++◌, length}
+use Rattle.std.proofs.Common.{take, drop, sym, ap, refl, subst, ◌∙◌, arith}
 use Rattle.std.proofs.Math.Seq.{take-length, take-append_seam, drop-append_seam}
 use Rattle.std.proofs.lemmas.List.{append_assoc, append-nil, length-append, length-drop}
 use Rattle.std.proofs.lemmas.List.Sums.{fold_push}
@@ -16,7 +16,7 @@ use Rattle.awk_tokens.specs.Next.{IsNext}
 use Rattle.awk_tokens.specs.declared.token.Token.{Token}
 use Rattle.awk_tokens.specs.declared.kinds.TokenKind.{TokenKind}
 use Rattle.awk_tokens.proofs.FirstLemmas.{First}
-use Rattle.awk_tokens.proofs.GapLemmas.{Gap, gap_found}
+use Rattle.awk_tokens.proofs.GapLemmas.{gap_found}
 
 -- so much of the script is read as these tokens
 pub record At (numbers : Numbers) (script : Text) (start : ℕ) (place : Place) (operand : Bool)

@@ -1,7 +1,7 @@
 -- What a token is, and which one stands first in a text
 -- (POSIX.1-2017 XCU awk, "Lexical Conventions": the longest token at each place is taken).
 use Rattle.std.specs.Prelude.{◌≡◌, ◌≢◌, ℕ, ◌+◌, ◌-◌, ◌*◌, Bool, true, false, not, ◌&&◌, ◌||◌, if◌then◌else◌, ◌==◌}
-use Rattle.std.specs.Prelude.{nat_le, List, [], ◌∷◌, ◌++◌, length, slice_index, slice_range, fold, is_ok}
+use Rattle.std.specs.Prelude.{nat_le, [], ◌∷◌, ◌++◌, length, slice_index, slice_range, fold, is_ok}
 use Rattle.std.specs.Char.{is_ascii_digit}
 use Rattle.std.specs.List.{list_all}
 use Rattle.awk_numbers.specs.Numerals.{number, without_sign}
