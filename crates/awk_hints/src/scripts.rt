@@ -1,9 +1,11 @@
 // The hints of a script's text, in lines.
 ghost use Rattle.std.specs.Prelude.{◌≢◌, IfErr};
+ghost use Rattle.awk_numbers.specs.declared.number.Numbers.TheVariants.{Whole};
 ghost use Rattle.awk_tokens.specs.Reads.{Refuses};
 
 use crate::telling::hints;
 use crate::words::line;
+use awk_numbers::number::Numbers;
 use awk_text::Memory;
 use awk_text::place::Place;
 use awk_tokens::{SyntaxError, Token, tokens};
@@ -21,9 +23,9 @@ fn lines_of(alloc: Global, tokens: &[Token]) -> Result<String, Memory> {
 /// The lines of the hints of a script that is accepted, none where nothing is told of it. Of one that is not, the lines
 /// mean little; it is refused where it is read as no tokens, as `tokens` says, with S9 where memory is refused.
 pub fn script_lines(alloc: Global, script: &[u8]) -> Result<String, SyntaxError>
-    ensures { IfErr result (λ e. e.code ≢ 9 → Refuses script.now e.code e.place) }
+    ensures { IfErr result (λ e. e.code ≢ 9 → Refuses Whole script.now e.code e.place) }
 {
-    let tokens = match tokens(alloc, script) {
+    let tokens = match tokens(alloc, Numbers::Whole, script) {
         Ok(tokens) => tokens,
         Err(error) => return Err(error),
     };

@@ -3,6 +3,7 @@ use crate::bytes::byte_reason;
 use crate::foreign::is_function_of_gawk;
 use crate::places::text_at;
 use crate::tokens::{cannot_stand, may_follow, shown, token_at, word_of_gawk};
+use awk_numbers::number::Numbers;
 use awk_text::Memory;
 use awk_text::place::Place;
 use awk_tokens::{SyntaxError, Token, TokenKind, tokens};
@@ -44,7 +45,7 @@ fn number_reason(text: &[u8]) -> &'static str {
 
 // Of a refusal at a token of a script that has tokens.
 fn of_tokens(alloc: Global, script: &[u8], refusal: SyntaxError) -> Result<String, Memory> {
-    let Ok(read) = tokens(alloc, script) else {
+    let Ok(read) = tokens(alloc, Numbers::Whole, script) else {
         return Ok(String::new(alloc));
     };
     let tokens = read.as_slice();

@@ -1,5 +1,6 @@
 mod StringOn
 mod OnLemmas
+mod NumeralOn
 mod TokenLemmas
 mod ReadLemmas
 mod PlaceLemmas

@@ -9,6 +9,7 @@ use Rattle.std.proofs.lemmas.List.Concat.{flat_map-append}
 use Rattle.std.proofs.lemmas.List.Elements.{All-append}
 use Rattle.std.proofs.lemmas.List.Folds.{prefix_len-append}
 use Rattle.std.proofs.lemmas.List.Sums.{sum_by-append}
+use Rattle.awk_numbers.specs.declared.number.Numbers.TheVariants.{Whole}
 use Rattle.awk_text.specs.declared.place.Place.{Place}
 use Rattle.awk_tokens.specs.Bytes.{Text}
 use Rattle.awk_tokens.specs.Places.{capped, place_after}
@@ -121,7 +122,7 @@ split_suc (x ∷ xs) (suc i) d h e = ap (λ ys. x ∷ ys) (split_suc xs i d (ome
 pub refused_in : (sources : List Source) (i : ℕ) (s : Source) (lines sum code : ℕ) (own : Place) → i < length sources
     → s ≡ get_or sources i s → lines ≡ capped (newlines (lead (texts_of (take i sources))))
     → All IsRead (texts_of (take i sources))
-    → sum ≡ capped (lines + own.line) → Refuses s.text.items code own
+    → sum ≡ capped (lines + own.line) → Refuses Whole s.text.items code own
     → RefusesText (texts_of sources) code (at sum own.column)
 refused_in sources i s lines sum code own below is before all sum_is refused =
     let so_far = take i sources in

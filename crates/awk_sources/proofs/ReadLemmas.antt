@@ -4,6 +4,8 @@ use Rattle.std.proofs.Common.{All, sym, ap, refl, subst, ◌∙◌, arith}
 use Rattle.std.proofs.lemmas.List.{append_assoc, append-nil, map-append}
 use Rattle.std.proofs.lemmas.List.Sums.{fold-append}
 use Rattle.std.specs.List.{flat_map}
+use Rattle.awk_numbers.specs.declared.number.Numbers.{Numbers}
+use Rattle.awk_numbers.specs.declared.number.Numbers.TheVariants.{Whole}
 use Rattle.awk_tokens.specs.Bytes.{Text}
 use Rattle.awk_tokens.specs.Tokens.{IsFirst}
 use Rattle.awk_tokens.specs.Reads.{ReadsTo, begun, a_gap, a_token, Reads, ends_operand, operand_after, token_of}
@@ -15,17 +17,17 @@ use Rattle.awk_sources.specs.Parts.{Word, word_of, newline, IsRead, ReadsEach, l
 use Rattle.awk_sources.proofs.OnLemmas.{gap_on}
 use Rattle.awk_sources.proofs.TokenLemmas.{first_on, newline_first}
 
-pub read_on : (front rest behind : Text) (tokens : List Token) → ReadsTo front tokens rest
-    → ReadsTo front tokens (rest ++ 10 ∷ behind)
-read_on _ _ behind _ (begun script) = begun (script ++ 10 ∷ behind)
-read_on _ _ behind _ (a_gap front gap rest tokens before h) =
-    a_gap front gap (rest ++ 10 ∷ behind) tokens (subst (λ w. ReadsTo front tokens w)
-    (append_assoc gap rest (10 ∷ behind)) (read_on front (gap ++ rest) behind tokens before))
+pub read_on : (numbers : Numbers) (front rest behind : Text) (tokens : List Token) → ReadsTo numbers front tokens rest
+    → ReadsTo numbers front tokens (rest ++ 10 ∷ behind)
+read_on numbers _ _ behind _ (begun script) = begun (script ++ 10 ∷ behind)
+read_on numbers _ _ behind _ (a_gap front gap rest tokens before h) =
+    a_gap front gap (rest ++ 10 ∷ behind) tokens (subst (λ w. ReadsTo numbers front tokens w)
+    (append_assoc gap rest (10 ∷ behind)) (read_on numbers front (gap ++ rest) behind tokens before))
     (gap_on gap rest behind h)
-read_on _ _ behind _ (a_token front text rest tokens kind before h) =
-    a_token front text (rest ++ 10 ∷ behind) tokens kind (subst (λ w. ReadsTo front tokens w)
-    (append_assoc text rest (10 ∷ behind)) (read_on front (text ++ rest) behind tokens before))
-    (first_on (operand_after tokens) kind text rest behind h)
+read_on numbers _ _ behind _ (a_token front text rest tokens kind before h) =
+    a_token front text (rest ++ 10 ∷ behind) tokens kind (subst (λ w. ReadsTo numbers front tokens w)
+    (append_assoc text rest (10 ∷ behind)) (read_on numbers front (text ++ rest) behind tokens before))
+    (first_on numbers (operand_after tokens) kind text rest behind h)
 
 -- ---- whether an operand may follow is told by the words
 
@@ -47,40 +49,45 @@ operand_moved before moved tokens begins same =
 
 -- ---- a script behind this front is read by the same words
 
-record Moved (lead front rest : Text) (before tokens : List Token) : Type 0 where
+record Moved (numbers : Numbers) (lead front rest : Text) (before tokens : List Token) : Type 0 where
   moved : List Token
-  read : ReadsTo (lead ++ front) (before ++ moved) rest
+  read : ReadsTo numbers (lead ++ front) (before ++ moved) rest
   same : map word_of moved ≡ map word_of tokens
 
-moved_on : (lead : Text) (before : List Token) (script front rest : Text) (tokens : List Token)
-    → operand_after before ≡ true → ReadsTo lead before script → script ≡ front ++ rest → ReadsTo front tokens rest
-    → Moved lead front rest before tokens
-moved_on lead before script _ _ _ begins base parts (begun rest) =
+moved_on : (numbers : Numbers) (lead : Text) (before : List Token) (script front rest : Text) (tokens : List Token)
+    → operand_after before ≡ true → ReadsTo numbers lead before script → script ≡ front ++ rest
+    → ReadsTo numbers front tokens rest
+    → Moved numbers lead front rest before tokens
+moved_on numbers lead before script _ _ _ begins base parts (begun rest) =
     record {
       moved = [];
-      read = subst (λ w. ReadsTo w (before ++ []) rest) (sym (append-nil lead)) (subst (λ ts. ReadsTo lead ts rest)
-          (sym (append-nil before)) (subst (λ w. ReadsTo lead before w) parts base));
+      read = subst (λ w. ReadsTo numbers w (before ++ []) rest) (sym (append-nil lead))
+      (subst (λ ts. ReadsTo numbers lead ts rest)
+          (sym (append-nil before)) (subst (λ w. ReadsTo numbers lead before w) parts base));
       same = refl;
     }
-moved_on lead before script _ _ _ begins base parts (a_gap front gap rest tokens prior h) =
-    let m = moved_on lead before script front (gap ++ rest) tokens begins base (parts ∙ append_assoc front gap rest)
+moved_on numbers lead before script _ _ _ begins base parts (a_gap front gap rest tokens prior h) =
+    let m = moved_on numbers lead before script front (gap ++ rest) tokens begins base
+    (parts ∙ append_assoc front gap rest)
     prior in
     record {
       moved = m.moved;
-      read = subst (λ w. ReadsTo w (before ++ m.moved) rest) (append_assoc lead front gap)
+      read = subst (λ w. ReadsTo numbers w (before ++ m.moved) rest) (append_assoc lead front gap)
           (a_gap (lead ++ front) gap rest (before ++ m.moved) m.read h);
       same = m.same;
     }
-moved_on lead before script _ _ _ begins base parts (a_token front text rest tokens kind prior h) =
-    let m = moved_on lead before script front (text ++ rest) tokens begins base (parts ∙ append_assoc front text rest)
+moved_on numbers lead before script _ _ _ begins base parts (a_token front text rest tokens kind prior h) =
+    let m = moved_on numbers lead before script front (text ++ rest) tokens begins base
+    (parts ∙ append_assoc front text rest)
     prior in
     let t = token_of (lead ++ front) kind text in
-    let first : IsFirst (operand_after (before ++ m.moved)) kind text rest = subst (λ o. IsFirst o kind text rest)
+    let first : IsFirst numbers (operand_after (before ++ m.moved)) kind text rest = subst
+    (λ o. IsFirst numbers o kind text rest)
     (sym (operand_moved before m.moved tokens begins m.same)) h in
     record {
       moved = m.moved ++ t ∷ [];
-      read = subst (λ w. ReadsTo w (before ++ (m.moved ++ t ∷ [])) rest) (append_assoc lead front text)
-          (subst (λ ts. ReadsTo ((lead ++ front) ++ text) ts rest) (append_assoc before m.moved (t ∷ []))
+      read = subst (λ w. ReadsTo numbers w (before ++ (m.moved ++ t ∷ [])) rest) (append_assoc lead front text)
+          (subst (λ ts. ReadsTo numbers ((lead ++ front) ++ text) ts rest) (append_assoc before m.moved (t ∷ []))
           (a_token (lead ++ front) text rest (before ++ m.moved) kind m.read first));
       same = map-append word_of m.moved (t ∷ []) ∙ ap (λ ws. ws ++ word_of t ∷ []) m.same
           ∙ sym (map-append word_of tokens (token_of front kind text ∷ []));
@@ -92,30 +99,32 @@ joined_next : (text next : Text) (texts : List Text) → joined (text ∷ next �
 joined_next text next texts = refl
 
 abbrev IsReadAs : List Text → List Word → Type 0
-IsReadAs texts words = (tokens : List Token) × Reads (joined texts) tokens × (map word_of tokens ≡ words)
+IsReadAs texts words = (tokens : List Token) × Reads Whole (joined texts) tokens × (map word_of tokens ≡ words)
 
-two_read : (text behind : Text) (tokens others : List Token) → Reads text tokens → Reads behind others
-    → (all : List Token) × Reads (text ++ 10 ∷ behind) all
+two_read : (numbers : Numbers) (text behind : Text) (tokens others : List Token) → Reads numbers text tokens
+    → Reads numbers behind others
+    → (all : List Token) × Reads numbers (text ++ 10 ∷ behind) all
     × (map word_of all ≡ map word_of tokens ++ newline ∷ map word_of others)
-two_read text behind tokens others one two =
+two_read numbers text behind tokens others one two =
     let sign = token_of text Sign (10 ∷ []) in
     let before = tokens ++ sign ∷ [] in
-    let seam : ReadsTo (text ++ 10 ∷ []) before behind = a_token text (10 ∷ []) behind tokens Sign
-    (read_on text [] behind tokens one) (newline_first (operand_after tokens) behind) in
+    let seam : ReadsTo numbers (text ++ 10 ∷ []) before behind = a_token text (10 ∷ []) behind tokens Sign
+    (read_on numbers text [] behind tokens one) (newline_first numbers (operand_after tokens) behind) in
     let begins : operand_after before ≡ true = fold-append goes true tokens (sign ∷ []) in
-    let m = moved_on (text ++ 10 ∷ []) before behind behind [] others begins seam (sym (append-nil behind)) two in (
+    let m = moved_on numbers (text ++ 10 ∷ []) before behind behind [] others begins seam
+    (sym (append-nil behind)) two in (
       before ++ m.moved,
-      subst (λ w. Reads w (before ++ m.moved)) (append_assoc text (10 ∷ []) behind) m.read,
+      subst (λ w. Reads numbers w (before ++ m.moved)) (append_assoc text (10 ∷ []) behind) m.read,
       map-append word_of before m.moved ∙ ap (λ ws. map word_of before ++ ws) m.same
           ∙ ap (λ ws. ws ++ map word_of others) (map-append word_of tokens (sign ∷ [])) ∙ append_assoc
           (map word_of tokens) (newline ∷ []) (map word_of others),
     )
 
 each_read : (texts : List Text) (words : List Word) → ReadsEach texts words → IsReadAs texts words
-each_read _ _ (last text tokens h) = (tokens, subst (λ w. Reads w tokens) (sym (append-nil text)) h, refl)
+each_read _ _ (last text tokens h) = (tokens, subst (λ w. Reads Whole w tokens) (sym (append-nil text)) h, refl)
 each_read _ _ (more text next texts tokens words h others) =
     let inner = each_read (next ∷ texts) words others in
-    let all = two_read text (joined (next ∷ texts)) tokens inner.0 h inner.1 in
+    let all = two_read Whole text (joined (next ∷ texts)) tokens inner.0 h inner.1 in
     (all.0, all.1, all.2 ∙ ap (λ ws. map word_of tokens ++ newline ∷ ws) inner.2)
 
 -- the first of them, and the others
@@ -143,7 +152,7 @@ read_by_text (text ∷ texts) whole several h is =
       words = each.0;
       each = each.1;
       tokens = all.0;
-      reads = subst (λ w. Reads w all.0) (sym is) all.1;
+      reads = subst (λ w. Reads Whole w all.0) (sym is) all.1;
       same =
           all.2;
     }

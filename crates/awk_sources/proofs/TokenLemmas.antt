@@ -9,6 +9,8 @@ use Rattle.std.proofs.lemmas.Bool.{and_parts, both_ways, eqb-true, or_cases, or_
 use Rattle.std.proofs.lemmas.List.{append_assoc, length-append}
 use Rattle.std.proofs.lemmas.List.Folds.{list_all-append}
 use Rattle.std.proofs.lemmas.Slice.Eq.{bytes_eq-Decides}
+use Rattle.awk_numbers.specs.declared.number.Numbers.{Numbers}
+use Rattle.awk_numbers.specs.declared.number.Numbers.TheVariants.{Whole, Double}
 use Rattle.awk_tokens.specs.Bytes.{Text, begins_name, continues_name}
 use Rattle.awk_tokens.specs.Signs.{doubles, is_double, is_sign}
 use Rattle.awk_tokens.specs.Words.{is_name, word_kind, name_kind, kind_of, kind_or, lookup, reserved, words}
@@ -17,14 +19,16 @@ use Rattle.awk_tokens.specs.declared.terminals.Terminal.TheVariants as listed
 use Rattle.awk_tokens.specs.Strings.{StringEnds}
 use Rattle.awk_tokens.specs.Patterns.{PatternEnds}
 use Rattle.awk_tokens.specs.Scan.{string_rest, pattern_rest}
-use Rattle.awk_tokens.specs.Tokens.{is_number, IsToken, IsWord, NoLonger, is_whole, IsWhole, IsFirst}
+use Rattle.awk_tokens.specs.Tokens.{IsToken, IsWord, NoLonger, is_whole, IsConstant, IsFirst}
 use Rattle.awk_tokens.specs.declared.kinds.TokenKind.{TokenKind}
 use Rattle.awk_tokens.specs.declared.kinds.TokenKind.TheVariants.{Number, Quoted, Pattern, Keyword, Builtin, Refused}
 use Rattle.awk_tokens.specs.declared.kinds.TokenKind.TheVariants.{Name, CallName, Sign}
 use Rattle.awk_tokens.proofs.FirstLemmas.{Family, a_number, a_word, a_string, a_pattern, a_sign, family_of, family_at}
-use Rattle.awk_tokens.proofs.FirstLemmas.{family_told, as_string, as_pattern, as_sign, head_is, tail_is}
+use Rattle.awk_tokens.proofs.FirstLemmas.{family_told, as_number, as_string, as_pattern, as_sign, head_is, tail_is}
+use Rattle.awk_tokens.proofs.Once.{no_token_empty}
 use Rattle.awk_tokens.proofs.PatternLemmas.{pattern_rest_at}
 use Rattle.awk_tokens.proofs.StringLemmas.{string_rest_at}
+use Rattle.awk_sources.proofs.NumeralOn.{number_before}
 use Rattle.awk_sources.proofs.OnLemmas.{pattern_on}
 use Rattle.awk_sources.proofs.StringOn.{string_on}
 
@@ -42,23 +46,24 @@ body_on : (part : _) (body rest more : Text) → PatternEnds part (body ++ rest)
 body_on part body rest more h = subst (λ w. PatternEnds part w (rest ++ 10 ∷ more)) (append_assoc body rest (10 ∷ more))
     (pattern_on part (body ++ rest) rest more h)
 
-token_on : (operand : Bool) (kind : TokenKind) (text rest more : Text) → IsToken operand kind text rest
-    → IsToken operand kind text (rest ++ 10 ∷ more)
-token_on operand Number text rest more h = h
-token_on operand Quoted text rest more h = (
+token_on : (numbers : Numbers) (operand : Bool) (kind : TokenKind) (text rest more : Text)
+    → IsToken numbers operand kind text rest
+    → IsToken numbers operand kind text (rest ++ 10 ∷ more)
+token_on numbers operand Number text rest more h = h
+token_on numbers operand Quoted text rest more h = (
   h.0,
   h.1,
   subst (λ w. StringEnds w (rest ++ 10 ∷ more)) (append_assoc h.0 rest (10 ∷ more))
       (string_on (h.0 ++ rest) rest (10 ∷ more) h.2),
 )
-token_on operand Pattern text rest more h =
+token_on numbers operand Pattern text rest more h =
     (h.0, h.1, h.2, body_on _ h.0 rest more h.3)
-token_on operand Sign text rest more h = h
-token_on operand Keyword text rest more h = word_on Keyword text rest more h
-token_on operand Builtin text rest more h = word_on Builtin text rest more h
-token_on operand Refused text rest more h = word_on Refused text rest more h
-token_on operand Name text rest more h = word_on Name text rest more h
-token_on operand CallName text rest more h = word_on CallName text rest more h
+token_on numbers operand Sign text rest more h = h
+token_on numbers operand Keyword text rest more h = word_on Keyword text rest more h
+token_on numbers operand Builtin text rest more h = word_on Builtin text rest more h
+token_on numbers operand Refused text rest more h = word_on Refused text rest more h
+token_on numbers operand Name text rest more h = word_on Name text rest more h
+token_on numbers operand CallName text rest more h = word_on CallName text rest more h
 
 is_whole_on : (text rest more : Text) → is_whole text (rest ++ 10 ∷ more) ≡ is_whole text rest
 is_whole_on text [] more = refl
@@ -66,58 +71,32 @@ is_whole_on text (x ∷ []) more = refl
 is_whole_on text (x ∷ y ∷ []) more = refl
 is_whole_on text (x ∷ y ∷ w ∷ rest) more = refl
 
-whole_on : (kind : TokenKind) (text rest more : Text) → IsWhole kind text rest → IsWhole kind text (rest ++ 10 ∷ more)
-whole_on Number text rest more h = is_whole_on text rest more ∙ h
-whole_on Quoted text rest more h = tt
-whole_on Pattern text rest more h = tt
-whole_on Sign text rest more h = tt
-whole_on Keyword text rest more h = tt
-whole_on Builtin text rest more h = tt
-whole_on Refused text rest more h = tt
-whole_on Name text rest more h = tt
-whole_on CallName text rest more h = tt
-
--- ---- a token has a byte
-
-no_word_empty : (kind : TokenKind) (rest : Text) → IsWord kind [] rest → ⊥
-no_word_empty kind rest h = absurd cc
-
-no_token_empty : (operand : Bool) (kind : TokenKind) (rest : Text) → IsToken operand kind [] rest → ⊥
-no_token_empty operand Number rest h = absurd cc
-no_token_empty operand Quoted rest h = let e = h.1 in absurd cc
-no_token_empty operand Pattern rest h = let e = h.1 in absurd cc
-no_token_empty operand Sign rest h = let e = h.0 in absurd cc
-no_token_empty operand Keyword rest h = no_word_empty Keyword rest h
-no_token_empty operand Builtin rest h = no_word_empty Builtin rest h
-no_token_empty operand Refused rest h = no_word_empty Refused rest h
-no_token_empty operand Name rest h = no_word_empty Name rest h
-no_token_empty operand CallName rest h = no_word_empty CallName rest h
+constant_on : (numbers : Numbers) (kind : TokenKind) (text rest more : Text) → IsConstant numbers kind text rest
+    → IsConstant numbers kind text (rest ++ 10 ∷ more)
+constant_on Whole Number text rest more h = is_whole_on text rest more ∙ h
+constant_on Double Number text rest more h = h
+constant_on numbers Quoted text rest more h = tt
+constant_on numbers Pattern text rest more h = tt
+constant_on numbers Sign text rest more h = tt
+constant_on numbers Keyword text rest more h = tt
+constant_on numbers Builtin text rest more h = tt
+constant_on numbers Refused text rest more h = tt
+constant_on numbers Name text rest more h = tt
+constant_on numbers CallName text rest more h = tt
 
 -- ---- what a token of a family is
 
-as_number : (operand : Bool) (kind : TokenKind) (text rest : Text) → family_of kind ≡ a_number
-    → IsToken operand kind text rest → is_number text ≡ true
-as_number operand Number text rest e h = h
-as_number operand Quoted text rest e h = absurd cc
-as_number operand Pattern text rest e h = absurd cc
-as_number operand Sign text rest e h = absurd cc
-as_number operand Keyword text rest e h = absurd cc
-as_number operand Builtin text rest e h = absurd cc
-as_number operand Refused text rest e h = absurd cc
-as_number operand Name text rest e h = absurd cc
-as_number operand CallName text rest e h = absurd cc
-
-as_name : (operand : Bool) (kind : TokenKind) (text rest : Text) → family_of kind ≡ a_word
-    → IsToken operand kind text rest → is_name text ≡ true
-as_name operand Number text rest e h = absurd cc
-as_name operand Quoted text rest e h = absurd cc
-as_name operand Pattern text rest e h = absurd cc
-as_name operand Sign text rest e h = absurd cc
-as_name operand Keyword text rest e h = h.0
-as_name operand Builtin text rest e h = h.0
-as_name operand Refused text rest e h = h.0
-as_name operand Name text rest e h = h.0
-as_name operand CallName text rest e h = h.0
+as_name : (numbers : Numbers) (operand : Bool) (kind : TokenKind) (text rest : Text) → family_of kind ≡ a_word
+    → IsToken numbers operand kind text rest → is_name text ≡ true
+as_name numbers operand Number text rest e h = absurd cc
+as_name numbers operand Quoted text rest e h = absurd cc
+as_name numbers operand Pattern text rest e h = absurd cc
+as_name numbers operand Sign text rest e h = absurd cc
+as_name numbers operand Keyword text rest e h = h.0
+as_name numbers operand Builtin text rest e h = h.0
+as_name numbers operand Refused text rest e h = h.0
+as_name numbers operand Name text rest e h = h.0
+as_name numbers operand CallName text rest e h = h.0
 
 word_kind_of : (t : Terminal) → family_of (kind_of t) ≡ a_word
 word_kind_of (listed.Builtin which) = refl
@@ -134,24 +113,25 @@ word_family_of : (text rest : Text) → family_of (word_kind text rest) ≡ a_wo
 word_family_of text rest = word_kinds (lookup words text) (eqb (slice_index rest 0) 40)
 
 -- a word of its kind is that token
-word_is : (operand : Bool) (kind : TokenKind) (text rest : Text) → family_of kind ≡ a_word → IsWord kind text rest
-    → IsToken operand kind text rest
-word_is operand Number text rest e h = absurd cc
-word_is operand Quoted text rest e h = absurd cc
-word_is operand Pattern text rest e h = absurd cc
-word_is operand Sign text rest e h = absurd cc
-word_is operand Keyword text rest e h = h
-word_is operand Builtin text rest e h = h
-word_is operand Refused text rest e h = h
-word_is operand Name text rest e h = h
-word_is operand CallName text rest e h = h
+word_is : (numbers : Numbers) (operand : Bool) (kind : TokenKind) (text rest : Text) → family_of kind ≡ a_word
+    → IsWord kind text rest
+    → IsToken numbers operand kind text rest
+word_is numbers operand Number text rest e h = absurd cc
+word_is numbers operand Quoted text rest e h = absurd cc
+word_is numbers operand Pattern text rest e h = absurd cc
+word_is numbers operand Sign text rest e h = absurd cc
+word_is numbers operand Keyword text rest e h = h
+word_is numbers operand Builtin text rest e h = h
+word_is numbers operand Refused text rest e h = h
+word_is numbers operand Name text rest e h = h
+word_is numbers operand CallName text rest e h = h
 
 -- ---- no longer token stands there
 
 -- a longer token of this family adds nothing, where the rest goes on with a newline
-abbrev Adds : Bool → Text → Text → Text → TokenKind → Type 0
-Adds operand text rest more other = (added left : Text) → rest ++ 10 ∷ more ≡ added ++ left
-    → IsToken operand other (text ++ added) left → added ≡ []
+abbrev Adds : Numbers → Bool → Text → Text → Text → TokenKind → Type 0
+Adds numbers operand text rest more other = (added left : Text) → rest ++ 10 ∷ more ≡ added ++ left
+    → IsToken numbers operand other (text ++ added) left → added ≡ []
 
 -- a run of bytes that pass, one more of them, and what is added behind
 run_parts : (p : ℕ → Bool) (z added : Text) (c : ℕ) → list_all p (z ++ c ∷ added) ≡ true → (list_all p z ≡ true)
@@ -164,44 +144,25 @@ run_one : (p : ℕ → Bool) (z : Text) (c : ℕ) → list_all p z ≡ true → 
 run_one p z c all passes = list_all-append p z (c ∷ []) ∙ ap (λ t. t && list_all p (c ∷ [])) all
     ∙ ap (λ t. t && true) passes
 
-no_digit_newline : is_ascii_digit 10 ≡ false
-no_digit_newline = refl
-
 no_name_newline : continues_name 10 ≡ false
 no_name_newline = refl
 
-number_adds : (operand : Bool) (b : ℕ) (z rest more added left : Text) → NoLonger operand (b ∷ z) rest
-    → rest ++ 10 ∷ more ≡ added ++ left → is_number (b ∷ (z ++ added)) ≡ true → added ≡ []
-number_adds operand b z rest more [] left none parts all = refl
-number_adds operand b z [] more (c ∷ added) left none parts all =
-    let run = run_parts is_ascii_digit z added c
-    (and_parts (is_ascii_digit b) (list_all is_ascii_digit (z ++ c ∷ added)) all).1 in
-    absurd (true≢false (sym run.1 ∙ ap is_ascii_digit (sym (head_is 10 c more (added ++ left) parts))
-    ∙ no_digit_newline))
-number_adds operand b z (r ∷ rest) more (c ∷ added) left none parts all =
-    let both = and_parts (is_ascii_digit b) (list_all is_ascii_digit (z ++ c ∷ added)) all in
-    let run = run_parts is_ascii_digit z added c both.1 in
-    let token : is_number (b ∷ (z ++ c ∷ [])) ≡ true = ap (λ t. t && list_all is_ascii_digit (z ++ c ∷ [])) both.0
-    ∙ run_one is_ascii_digit z c run.0 run.1 in
-    let nothing = none Number (c ∷ []) rest (ap (λ x. x ∷ rest) (head_is r c (rest ++ 10 ∷ more) (added ++ left) parts))
-    token in
-    absurd cc
-
-word_adds : (operand : Bool) (b : ℕ) (z rest more added left : Text) → NoLonger operand (b ∷ z) rest
+word_adds : (numbers : Numbers) (operand : Bool) (b : ℕ) (z rest more added left : Text)
+    → NoLonger numbers operand (b ∷ z) rest
     → rest ++ 10 ∷ more ≡ added ++ left → is_name (b ∷ (z ++ added)) ≡ true → added ≡ []
-word_adds operand b z rest more [] left none parts all = refl
-word_adds operand b z [] more (c ∷ added) left none parts all =
+word_adds numbers operand b z rest more [] left none parts all = refl
+word_adds numbers operand b z [] more (c ∷ added) left none parts all =
     let run = run_parts continues_name z added c (and_parts (begins_name b) (list_all continues_name (z ++ c ∷ added))
     all).1 in
     absurd (true≢false (sym run.1 ∙ ap continues_name (sym (head_is 10 c more (added ++ left) parts))
     ∙ no_name_newline))
-word_adds operand b z (r ∷ rest) more (c ∷ added) left none parts all =
+word_adds numbers operand b z (r ∷ rest) more (c ∷ added) left none parts all =
     let both = and_parts (begins_name b) (list_all continues_name (z ++ c ∷ added)) all in
     let run = run_parts continues_name z added c both.1 in
     let text : Text = b ∷ (z ++ c ∷ []) in
     let name : is_name text ≡ true = ap (λ t. t && list_all continues_name (z ++ c ∷ [])) both.0
     ∙ run_one continues_name z c run.0 run.1 in
-    let token = word_is operand (word_kind text rest) text rest (word_family_of text rest) (name, refl) in
+    let token = word_is numbers operand (word_kind text rest) text rest (word_family_of text rest) (name, refl) in
     let nothing = none (word_kind text rest) (c ∷ []) rest
     (ap (λ x. x ∷ rest) (head_is r c (rest ++ 10 ∷ more) (added ++ left) parts)) token in
     absurd cc
@@ -221,18 +182,20 @@ same_whole z body other rest added left is is_other parts =
     ap (λ w. w ++ left) (sym is_other) ∙ append_assoc z added left ∙ ap (λ w. z ++ w) (sym parts)
     ∙ ap (λ w. w ++ rest) is
 
-string_adds : (operand : Bool) (b : ℕ) (z rest added left : Text) → IsToken operand Quoted (b ∷ z) rest
-    → rest ≡ added ++ left → IsToken operand Quoted (b ∷ (z ++ added)) left → added ≡ []
-string_adds operand b z rest added left h parts o =
+string_adds : (numbers : Numbers) (operand : Bool) (b : ℕ) (z rest added left : Text)
+    → IsToken numbers operand Quoted (b ∷ z) rest
+    → rest ≡ added ++ left → IsToken numbers operand Quoted (b ∷ (z ++ added)) left → added ≡ []
+string_adds numbers operand b z rest added left h parts o =
     let whole = same_whole z h.0 o.0 rest added left (tail_is b 34 z h.0 h.1) (tail_is b 34 (z ++ added) o.0 o.1) parts
     in
     let one = string_rest_at (h.0 ++ rest) rest h.2 in
     let two = string_rest_at (o.0 ++ left) left o.2 in
     no_rest added left (sym parts ∙ some_is rest left (sym one ∙ sym (ap (string_rest false) whole) ∙ two))
 
-pattern_adds : (operand : Bool) (b : ℕ) (z rest added left : Text) → IsToken operand Pattern (b ∷ z) rest
-    → rest ≡ added ++ left → IsToken operand Pattern (b ∷ (z ++ added)) left → added ≡ []
-pattern_adds operand b z rest added left h parts o =
+pattern_adds : (numbers : Numbers) (operand : Bool) (b : ℕ) (z rest added left : Text)
+    → IsToken numbers operand Pattern (b ∷ z) rest
+    → rest ≡ added ++ left → IsToken numbers operand Pattern (b ∷ (z ++ added)) left → added ≡ []
+pattern_adds numbers operand b z rest added left h parts o =
     let whole = same_whole z h.0 o.0 rest added left (tail_is b 47 z h.0 h.1) (tail_is b 47 (z ++ added) o.0 o.1) parts
     in
     let one = pattern_rest_at _ (h.0 ++ rest) rest h.3 in
@@ -255,63 +218,77 @@ double_no_newline b is =
     let other = listed_text (λ s. eqb (slice_index s 1) 10) doubles (b ∷ 10 ∷ []) is refl in
     true≢false other
 
-sign_adds : (operand : Bool) (b : ℕ) (z rest more added left : Text) → is_sign (b ∷ z) ≡ true
-    → (operand ≡ true → b ≢ 47) → NoLonger operand (b ∷ z) rest → rest ++ 10 ∷ more ≡ added ++ left
+sign_adds : (numbers : Numbers) (operand : Bool) (b : ℕ) (z rest more added left : Text) → is_sign (b ∷ z) ≡ true
+    → (operand ≡ true → b ≢ 47) → NoLonger numbers operand (b ∷ z) rest → rest ++ 10 ∷ more ≡ added ++ left
     → is_sign (b ∷ (z ++ added)) ≡ true
     → added ≡ []
-sign_adds operand b z rest more [] left sign slash none parts all = refl
-sign_adds operand b (x ∷ y ∷ z) rest more (c ∷ added) left sign slash none parts all = absurd cc
-sign_adds operand b (x ∷ []) rest more (c ∷ added) left sign slash none parts all = absurd cc
-sign_adds operand b [] rest more (c ∷ d ∷ added) left sign slash none parts all = absurd cc
-sign_adds operand b [] [] more (c ∷ []) left sign slash none parts all =
+sign_adds numbers operand b z rest more [] left sign slash none parts all = refl
+sign_adds numbers operand b (x ∷ y ∷ z) rest more (c ∷ added) left sign slash none parts all = absurd cc
+sign_adds numbers operand b (x ∷ []) rest more (c ∷ added) left sign slash none parts all = absurd cc
+sign_adds numbers operand b [] rest more (c ∷ d ∷ added) left sign slash none parts all = absurd cc
+sign_adds numbers operand b [] [] more (c ∷ []) left sign slash none parts all =
     absurd (double_no_newline b (ap (is_double b) (head_is 10 c more left parts) ∙ all))
-sign_adds operand b [] (r ∷ rest) more (c ∷ []) left sign slash none parts all =
+sign_adds numbers operand b [] (r ∷ rest) more (c ∷ []) left sign slash none parts all =
     let nothing = none Sign (c ∷ []) rest (ap (λ x. x ∷ rest) (head_is r c (rest ++ 10 ∷ more) left parts)) (
       all,
       slash,
     ) in
     absurd cc
 
-adds_nothing : (operand : Bool) (kind other : TokenKind) (b : ℕ) (z rest more : Text)
-    → IsToken operand kind (b ∷ z) rest → NoLonger operand (b ∷ z) rest → family_of other ≡ family_of kind
-    → Adds operand (b ∷ z) rest more other
-adds_nothing operand Number other b z rest more h none same added left parts o =
-    number_adds operand b z rest more added left none parts (as_number operand other (b ∷ (z ++ added)) left same o)
-adds_nothing operand Quoted other b z rest more h none same added left parts o =
-    string_adds operand b z (rest ++ 10 ∷ more) added left (token_on operand Quoted (b ∷ z) rest more h) parts
-    (as_string operand other (b ∷ (z ++ added)) left same o)
-adds_nothing operand Pattern other b z rest more h none same added left parts o =
-    pattern_adds operand b z (rest ++ 10 ∷ more) added left (token_on operand Pattern (b ∷ z) rest more h) parts
-    (as_pattern operand other (b ∷ (z ++ added)) left same o)
-adds_nothing operand Sign other b z rest more h none same added left parts o =
-    sign_adds operand b z rest more added left h.0 h.1 none parts (as_sign operand other (b ∷ (z ++ added)) left same o)
-adds_nothing operand Keyword other b z rest more h none same added left parts o =
-    word_adds operand b z rest more added left none parts (as_name operand other (b ∷ (z ++ added)) left same o)
-adds_nothing operand Builtin other b z rest more h none same added left parts o =
-    word_adds operand b z rest more added left none parts (as_name operand other (b ∷ (z ++ added)) left same o)
-adds_nothing operand Refused other b z rest more h none same added left parts o =
-    word_adds operand b z rest more added left none parts (as_name operand other (b ∷ (z ++ added)) left same o)
-adds_nothing operand Name other b z rest more h none same added left parts o =
-    word_adds operand b z rest more added left none parts (as_name operand other (b ∷ (z ++ added)) left same o)
-adds_nothing operand CallName other b z rest more h none same added left parts o =
-    word_adds operand b z rest more added left none parts (as_name operand other (b ∷ (z ++ added)) left same o)
+adds_nothing : (numbers : Numbers) (operand : Bool) (kind other : TokenKind) (b : ℕ) (z rest more : Text)
+    → IsToken numbers operand kind (b ∷ z) rest → NoLonger numbers operand (b ∷ z) rest
+    → family_of other ≡ family_of kind
+    → Adds numbers operand (b ∷ z) rest more other
+adds_nothing numbers operand Number other b z rest more h none same added left parts o =
+    let h = as_number numbers operand other (b ∷ (z ++ added)) left same o in
+    let before = number_before numbers (b ∷ z) added rest more left h parts in
+    none Number added before.0 before.1 h
+adds_nothing numbers operand Quoted other b z rest more h none same added left parts o =
+    string_adds numbers operand b z (rest ++ 10 ∷ more) added left
+    (token_on numbers operand Quoted (b ∷ z) rest more h) parts
+    (as_string numbers operand other (b ∷ (z ++ added)) left same o)
+adds_nothing numbers operand Pattern other b z rest more h none same added left parts o =
+    pattern_adds numbers operand b z (rest ++ 10 ∷ more) added left
+    (token_on numbers operand Pattern (b ∷ z) rest more h) parts
+    (as_pattern numbers operand other (b ∷ (z ++ added)) left same o)
+adds_nothing numbers operand Sign other b z rest more h none same added left parts o =
+    sign_adds numbers operand b z rest more added left h.0 h.1 none parts
+    (as_sign numbers operand other (b ∷ (z ++ added)) left same o)
+adds_nothing numbers operand Keyword other b z rest more h none same added left parts o =
+    word_adds numbers operand b z rest more added left none parts
+    (as_name numbers operand other (b ∷ (z ++ added)) left same o)
+adds_nothing numbers operand Builtin other b z rest more h none same added left parts o =
+    word_adds numbers operand b z rest more added left none parts
+    (as_name numbers operand other (b ∷ (z ++ added)) left same o)
+adds_nothing numbers operand Refused other b z rest more h none same added left parts o =
+    word_adds numbers operand b z rest more added left none parts
+    (as_name numbers operand other (b ∷ (z ++ added)) left same o)
+adds_nothing numbers operand Name other b z rest more h none same added left parts o =
+    word_adds numbers operand b z rest more added left none parts
+    (as_name numbers operand other (b ∷ (z ++ added)) left same o)
+adds_nothing numbers operand CallName other b z rest more h none same added left parts o =
+    word_adds numbers operand b z rest more added left none parts
+    (as_name numbers operand other (b ∷ (z ++ added)) left same o)
 
-longest_on : (operand : Bool) (kind : TokenKind) (text rest more : Text) → IsToken operand kind text rest
-    → NoLonger operand text rest → NoLonger operand text (rest ++ 10 ∷ more)
-longest_on operand kind [] rest more h none = absurd (no_token_empty operand kind rest h)
-longest_on operand kind (b ∷ z) rest more h none =
+longest_on : (numbers : Numbers) (operand : Bool) (kind : TokenKind) (text rest more : Text)
+    → IsToken numbers operand kind text rest
+    → NoLonger numbers operand text rest → NoLonger numbers operand text (rest ++ 10 ∷ more)
+longest_on numbers operand kind [] rest more h none = absurd (no_token_empty numbers operand kind rest h)
+longest_on numbers operand kind (b ∷ z) rest more h none =
     λ other added left parts o.
-    adds_nothing operand kind other b z rest more h none (sym (family_told operand other b (z ++ added) left o)
-    ∙ family_told operand kind b z rest h) added left parts o
+    adds_nothing numbers operand kind other b z rest more h none
+    (sym (family_told numbers operand other b (z ++ added) left o)
+    ∙ family_told numbers operand kind b z rest h) added left parts o
 
-pub first_on : (operand : Bool) (kind : TokenKind) (text rest more : Text) → IsFirst operand kind text rest
-    → IsFirst operand kind text (rest ++ 10 ∷ more)
-first_on operand kind text rest more h =
+pub first_on : (numbers : Numbers) (operand : Bool) (kind : TokenKind) (text rest more : Text)
+    → IsFirst numbers operand kind text rest
+    → IsFirst numbers operand kind text (rest ++ 10 ∷ more)
+first_on numbers operand kind text rest more h =
     record {
-      token = token_on operand kind text rest more h.token;
+      token = token_on numbers operand kind text rest more h.token;
       longest =
-          longest_on operand kind text rest more h.token h.longest;
-      whole = whole_on kind text rest more h.whole;
+          longest_on numbers operand kind text rest more h.token h.longest;
+      constant = constant_on numbers kind text rest more h.constant;
     }
 
 -- ---- the newline is a token wherever it stands first
@@ -321,11 +298,11 @@ newline_alone [] is = refl
 newline_alone (c ∷ []) is = absurd cc
 newline_alone (c ∷ d ∷ added) is = absurd cc
 
-pub newline_first : (operand : Bool) (rest : Text) → IsFirst operand Sign (10 ∷ []) rest
-newline_first operand rest =
+pub newline_first : (numbers : Numbers) (operand : Bool) (rest : Text) → IsFirst numbers operand Sign (10 ∷ []) rest
+newline_first numbers operand rest =
     record {
       token = (refl, λ is e. absurd (omega arith));
-      longest = λ other added left parts o. newline_alone added (as_sign operand other (10 ∷ added) left
-          (sym (family_told operand other 10 added left o)) o);
-      whole = tt;
+      longest = λ other added left parts o. newline_alone added (as_sign numbers operand other (10 ∷ added) left
+          (sym (family_told numbers operand other 10 added left o)) o);
+      constant = tt;
     }

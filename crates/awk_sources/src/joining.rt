@@ -6,6 +6,7 @@ ghost use Rattle.awk_sources.specs.Lines.{lines_of};
 ghost use Rattle.awk_sources.specs.Parts.{IsRead, IsReadByText, RefusesText};
 
 use crate::source::Source;
+use awk_numbers::number::Numbers;
 use awk_text::Memory;
 use awk_text::place::Place;
 use awk_tokens::{SyntaxError, tokens};
@@ -32,7 +33,7 @@ fn read_each(alloc: Global, sources: &[Source]) -> Result<(), SyntaxError>
     let mut lines = 0u32;
     for source in sources {
         let text = source.text.as_slice();
-        if let Err(SyntaxError { code, place }) = tokens(alloc, text) {
+        if let Err(SyntaxError { code, place }) = tokens(alloc, Numbers::Whole, text) {
             let Place { line, column } = place;
             let line = lines.saturating_add(line);
             return Err(SyntaxError {

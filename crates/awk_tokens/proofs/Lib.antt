@@ -6,7 +6,9 @@ pub mod ClassLemmas
 pub mod PatternLemmas
 pub mod SignLemmas
 pub mod GapLemmas
+pub mod NumeralLemmas
 pub mod FirstLemmas
 pub mod PlaceLemmas
 pub mod StepLemmas
 pub mod Once
+pub mod Restriction

@@ -6,6 +6,7 @@ pub mod Patterns
 pub mod Places
 pub mod Tokens
 pub mod Reads
+pub mod Laws
 pub mod Scan
 pub mod Next
 pub mod Refusals

@@ -5,13 +5,15 @@ use Rattle.std.specs.Prelude.{codes, fold}
 use Rattle.std.specs.Char.{is_ascii_digit}
 use Rattle.std.specs.List.{list_all}
 use Rattle.std.specs.Str.{bytes_eq}
+use Rattle.awk_numbers.specs.declared.number.Numbers.{Numbers}
+use Rattle.awk_numbers.specs.declared.number.Numbers.TheVariants.{Whole}
 use Rattle.awk_text.specs.declared.place.Place.{Place}
 use Rattle.awk_tokens.specs.Bytes.{Text, is_blank, begins_name}
 use Rattle.awk_tokens.specs.Signs.{is_sign}
 use Rattle.awk_tokens.specs.Strings.{StringEnds}
 use Rattle.awk_tokens.specs.Patterns.{PatternEnds}
 use Rattle.awk_tokens.specs.Places.{place_after}
-use Rattle.awk_tokens.specs.Tokens.{IsToken, NoLonger, IsFirst, is_whole, text_of}
+use Rattle.awk_tokens.specs.Tokens.{IsToken, NoLonger, IsFirst, is_constant, text_of}
 use Rattle.awk_tokens.specs.declared.scan.ErePart.TheVariants.{Outside}
 use Rattle.awk_tokens.specs.declared.token.Token.{Token}
 use Rattle.awk_tokens.specs.declared.kinds.TokenKind.{TokenKind}
@@ -57,25 +59,26 @@ token_of front kind text =
 
 -- The front of a script is read as these tokens, and this rest of it is left: slices in order, each
 -- the longest token at its place, with separators between them.
-pub data ReadsTo : Text → List Token → Text → Type 0 where
-  begun : (script : Text) → ReadsTo [] [] script
-  a_gap : (front gap rest : Text) (tokens : List Token) → ReadsTo front tokens (gap ++ rest) → IsGap gap rest →
-      ReadsTo (front ++ gap) tokens rest
-  a_token : (front text rest : Text) (tokens : List Token) (kind : TokenKind) → ReadsTo front tokens (text ++ rest) →
-      IsFirst (operand_after tokens) kind text rest
-      → ReadsTo (front ++ text) (tokens ++ token_of front kind text ∷ []) rest
+pub data ReadsTo (numbers : Numbers) : Text → List Token → Text → Type 0 where
+  begun : (script : Text) → ReadsTo numbers [] [] script
+  a_gap : (front gap rest : Text) (tokens : List Token) → ReadsTo numbers front tokens (gap ++ rest) → IsGap gap rest →
+      ReadsTo numbers (front ++ gap) tokens rest
+  a_token : (front text rest : Text) (tokens : List Token) (kind : TokenKind) →
+      ReadsTo numbers front tokens (text ++ rest) →
+      IsFirst numbers (operand_after tokens) kind text rest
+      → ReadsTo numbers (front ++ text) (tokens ++ token_of front kind text ∷ []) rest
 
 -- the whole script is read as these tokens
-abbrev pub Reads : Text → List Token → Type 0
-Reads script tokens = ReadsTo script tokens []
+abbrev pub Reads : Numbers → Text → List Token → Type 0
+Reads numbers script tokens = ReadsTo numbers script tokens []
 
 -- the script is read as no other tokens
-abbrev pub IsOnly : Text → List Token → Type 0
-IsOnly script tokens = (others : List Token) → Reads script others → others ≡ tokens
+abbrev pub IsOnly : Numbers → Text → List Token → Type 0
+IsOnly numbers script tokens = (others : List Token) → Reads numbers script others → others ≡ tokens
 
 -- the script is read as no tokens at all
-abbrev pub IsUnread : Text → Type 0
-IsUnread script = (tokens : List Token) → Reads script tokens → ⊥
+abbrev pub IsUnread : Numbers → Text → Type 0
+IsUnread numbers script = (tokens : List Token) → Reads numbers script tokens → ⊥
 
 -- ---- refusals
 
@@ -91,20 +94,24 @@ pub record IsStray (z : Text) : Type 0 where
 
 -- The refusal of this code stands at the front of the text. The flag says whether an operand may
 -- begin there.
-pub data Stands : Bool → ℕ → Text → Type 0 where
-  stray : (operand : Bool) (z : Text) → IsStray z → Stands operand 1 z
-  open_string : (operand : Bool) (z : Text) → ((rest : Text) → StringEnds z rest → ⊥) → Stands operand 2 (34 ∷ z)
-  open_pattern : (z : Text) → ((rest : Text) → PatternEnds Outside z rest → ⊥) → Stands true 2 (47 ∷ z)
-  no_whole : (operand : Bool) (text rest : Text) → IsToken operand Number text rest → NoLonger operand text rest →
-      is_whole text rest ≡ false → Stands operand 3 (text ++ rest)
-  point : (operand : Bool) (b : ℕ) (z : Text) → is_ascii_digit b ≡ true → Stands operand 3 (46 ∷ b ∷ z)
+pub data Stands (numbers : Numbers) : Bool → ℕ → Text → Type 0 where
+  stray : (operand : Bool) (z : Text) → IsStray z → Stands numbers operand 1 z
+  open_string : (operand : Bool) (z : Text) → ((rest : Text) → StringEnds z rest → ⊥) →
+      Stands numbers operand 2 (34 ∷ z)
+  open_pattern : (z : Text) → ((rest : Text) → PatternEnds Outside z rest → ⊥) → Stands numbers true 2 (47 ∷ z)
+  no_constant : (operand : Bool) (text rest : Text) → IsToken numbers operand Number text rest →
+      NoLonger numbers operand text rest →
+      is_constant numbers text rest ≡ false → Stands numbers operand 3 (text ++ rest)
+  -- whole numbers have no point
+  point : (operand : Bool) (b : ℕ) (z : Text) → numbers ≡ Whole → is_ascii_digit b ≡ true →
+      Stands numbers operand 3 (46 ∷ b ∷ z)
 
 -- the script is refused by this code at this place, and all before it is read
-pub record Refuses (script : Text) (code : ℕ) (place : Place) : Type 0 where
+pub record Refuses (numbers : Numbers) (script : Text) (code : ℕ) (place : Place) : Type 0 where
   pub front : Text
   pub rest : Text
   pub tokens : List Token
   pub parts : script ≡ front ++ rest
-  pub read : ReadsTo front tokens rest
-  pub stands : Stands (operand_after tokens) code rest
+  pub read : ReadsTo numbers front tokens rest
+  pub stands : Stands numbers (operand_after tokens) code rest
   pub placed : place ≡ place_after front

@@ -1,9 +1,14 @@
 -- What the scanning functions answer, as functions of lists. The lexical rule does not stand on
 -- them: it is proved of them.
-use Rattle.std.specs.Prelude.{◌≡◌, ℕ, zero, suc, ◌+◌, ◌-◌, Bool, true, false, min, not, ◌&&◌, ◌||◌, if◌then◌else◌, ◌==◌}
-use Rattle.std.specs.Prelude.{List, [], ◌∷◌, take, drop, length, slice_index, Option, Some, None, Result, Ok, Err}
+use Rattle.std.specs.Prelude.{ℕ, zero, suc, ◌+◌, ◌-◌, Bool, true, false, min, not, ◌&&◌, ◌||◌, if◌then◌else◌, ◌==◌}
+use Rattle.std.specs.Prelude.{[], ◌∷◌, take, drop, length, slice_index, Option, Some, None, Result, Ok, Err}
 use Rattle.std.specs.Char.{is_ascii_digit, is_ascii_alphabetic}
 use Rattle.std.specs.List.{prefix_len}
+use Rattle.awk_numbers.specs.Numerals.{constant}
+use Rattle.awk_numbers.specs.declared.number.Number.{Number as Value}
+use Rattle.awk_numbers.specs.declared.number.NumberFault.{NumberFault}
+use Rattle.awk_numbers.specs.declared.number.Numbers.{Numbers}
+use Rattle.awk_numbers.specs.declared.number.Numbers.TheVariants.{Whole, Double}
 use Rattle.awk_tokens.specs.Bytes.{Text, is_blank, begins_name, continues_name}
 use Rattle.awk_tokens.specs.Signs.{sign_len}
 use Rattle.awk_tokens.specs.Words.{word_kind}
@@ -91,22 +96,35 @@ abbrev pub closed : TokenKind → Text → Option Text → Scanned
 closed kind z None = Err 2
 closed kind z (Some rest) = Ok (kind, length z - length rest)
 
-unfoldable pub number : Text → Scanned
-number z = let n = digits_len z in if is_whole (take n z) (drop n z) then Ok (Number, n) else Err 3
+-- of a number without a point
+abbrev pub whole : Text → Scanned
+whole z = let n = digits_len z in if is_whole (take n z) (drop n z) then Ok (Number, n) else Err 3
+
+abbrev pub double : Option (ℕ × Result Value NumberFault) → Scanned
+double (Some (n, Ok value)) = Ok (Number, n)
+double (Some (n, Err fault)) = Err 3
+double None = Err 3
+
+-- of a text that begins as numerals do
+unfoldable pub number : Numbers → Text → Scanned
+number Whole z = whole z
+number Double z = double (constant z)
 
 unfoldable pub word : Text → TokenKind × ℕ
 word z = let n = name_len z in (word_kind (take n z) (drop n z), n)
 
 unfoldable pub sign : Text → Scanned
-sign z =
-    let n = sign_len (slice_index z 0) (slice_index z 1) in
-    if n == 0 then Err (if slice_index z 0 == 46 && is_ascii_digit (slice_index z 1) then 3 else 1) else Ok (Sign, n)
+sign z = let n = sign_len (slice_index z 0) (slice_index z 1) in if n == 0 then Err 1 else Ok (Sign, n)
+
+-- a digit, or a point and a digit
+unfoldable pub begins_number : ℕ → ℕ → Bool
+begins_number b next = is_ascii_digit b || (b == 46 && is_ascii_digit next)
 
 -- the token at the front of a text that is not empty and begins with no separator
-unfoldable pub first_token : Bool → Text → Scanned
-first_token operand z =
+unfoldable pub first_token : Numbers → Bool → Text → Scanned
+first_token numbers operand z =
     let b = slice_index z 0 in
-    if is_ascii_digit b then number z
+    if begins_number b (slice_index z 1) then number numbers z
     else (if begins_name b then Ok (word z)
     else (if b == 34 then closed Quoted z (string_rest false (drop 1 z))
     else (if b == 47 && operand then closed Pattern z (pattern_rest Outside 0 (drop 1 z))

@@ -1,9 +1,12 @@
 -- What a token is, and which one stands first in a text
 -- (POSIX.1-2017 XCU awk, "Lexical Conventions": the longest token at each place is taken).
 use Rattle.std.specs.Prelude.{◌≡◌, ◌≢◌, ℕ, ◌+◌, ◌-◌, ◌*◌, Bool, true, false, not, ◌&&◌, ◌||◌, if◌then◌else◌, ◌==◌}
-use Rattle.std.specs.Prelude.{nat_le, List, [], ◌∷◌, ◌++◌, length, slice_index, slice_range, fold}
+use Rattle.std.specs.Prelude.{nat_le, [], ◌∷◌, ◌++◌, length, slice_index, slice_range, fold, is_ok}
 use Rattle.std.specs.Char.{is_ascii_digit}
 use Rattle.std.specs.List.{list_all}
+use Rattle.awk_numbers.specs.Numerals.{number, without_sign}
+use Rattle.awk_numbers.specs.declared.number.Numbers.{Numbers}
+use Rattle.awk_numbers.specs.declared.number.Numbers.TheVariants.{Whole, Double}
 use Rattle.awk_tokens.specs.Bytes.{Text}
 use Rattle.awk_tokens.specs.Signs.{is_sign}
 use Rattle.awk_tokens.specs.Words.{is_name, word_kind}
@@ -14,10 +17,37 @@ use Rattle.awk_tokens.specs.declared.kinds.TokenKind.{TokenKind}
 use Rattle.awk_tokens.specs.declared.kinds.TokenKind.TheVariants.{Number, Quoted, Pattern, Keyword, Builtin, Refused}
 use Rattle.awk_tokens.specs.declared.kinds.TokenKind.TheVariants.{Name, CallName, Sign}
 
+-- ---- numerals
+
 -- one or more digits
 abbrev pub is_number : Text → Bool
 is_number [] = false
 is_number (b ∷ z) = is_ascii_digit b && list_all is_ascii_digit z
+
+-- digits, and at most one point among or around them; 46 is `.`
+pub data IsMantissa : Text → Type 0 where
+  whole : (digits : Text) → is_number digits ≡ true → IsMantissa digits
+  pointed : (front behind : Text) → is_number (front ++ behind) ≡ true → IsMantissa (front ++ 46 ∷ behind)
+
+-- `e` or `E`, a sign or none, and digits; or nothing
+abbrev pub is_exponent : Text → Bool
+is_exponent [] = true
+is_exponent (e ∷ z) = (e == 101 || e == 69) && is_number (without_sign z)
+
+-- a number in base ten, without a sign
+pub record IsNumeral (text : Text) : Type 0 where
+  pub mantissa : Text
+  pub exponent : Text
+  pub parts : text ≡ mantissa ++ exponent
+  pub is_mantissa : IsMantissa mantissa
+  pub is_exponent : is_exponent exponent ≡ true
+
+-- the text is a number as the profile has them: whole ones have neither a point nor an exponent
+abbrev pub IsNumber : Numbers → Text → Type 0
+IsNumber Whole text = is_number text ≡ true
+IsNumber Double text = IsNumeral text
+
+-- ---- tokens
 
 -- a word or a name of this kind
 abbrev pub IsWord : TokenKind → Text → Text → Type 0
@@ -25,24 +55,25 @@ IsWord kind text rest = (is_name text ≡ true) × (word_kind text rest ≡ kind
 
 -- The text is a token of this kind where this rest stands behind it. The flag says whether an
 -- operand may begin there: a `/` then begins an expression, and is no sign.
-abbrev pub IsToken : Bool → TokenKind → Text → Text → Type 0
-IsToken operand Number text rest = is_number text ≡ true
-IsToken operand Quoted text rest = (body : Text) × (text ≡ 34 ∷ body) × StringEnds (body ++ rest) rest
-IsToken operand Pattern text rest =
+abbrev pub IsToken : Numbers → Bool → TokenKind → Text → Text → Type 0
+IsToken numbers operand Number text rest = IsNumber numbers text
+IsToken numbers operand Quoted text rest = (body : Text) × (text ≡ 34 ∷ body) × StringEnds (body ++ rest) rest
+IsToken numbers operand Pattern text rest =
     (body : Text) × (text ≡ 47 ∷ body) × (operand ≡ true) × PatternEnds Outside (body ++ rest) rest
-IsToken operand Sign text rest = (is_sign text ≡ true) × (operand ≡ true → slice_index text 0 ≢ 47)
-IsToken operand Keyword text rest = IsWord Keyword text rest
-IsToken operand Builtin text rest = IsWord Builtin text rest
-IsToken operand Refused text rest = IsWord Refused text rest
-IsToken operand Name text rest = IsWord Name text rest
-IsToken operand CallName text rest = IsWord CallName text rest
+IsToken numbers operand Sign text rest = (is_sign text ≡ true) × (operand ≡ true → slice_index text 0 ≢ 47)
+IsToken numbers operand Keyword text rest = IsWord Keyword text rest
+IsToken numbers operand Builtin text rest = IsWord Builtin text rest
+IsToken numbers operand Refused text rest = IsWord Refused text rest
+IsToken numbers operand Name text rest = IsWord Name text rest
+IsToken numbers operand CallName text rest = IsWord CallName text rest
 
 -- no longer front of what stands there is a token of any kind
-abbrev pub NoLonger : Bool → Text → Text → Type 0
-NoLonger operand text rest =
-    (kind : TokenKind) (more left : Text) → rest ≡ more ++ left → IsToken operand kind (text ++ more) left → more ≡ []
+abbrev pub NoLonger : Numbers → Bool → Text → Text → Type 0
+NoLonger numbers operand text rest =
+    (kind : TokenKind) (more left : Text) → rest ≡ more ++ left → IsToken numbers operand kind (text ++ more) left →
+    more ≡ []
 
--- ---- numbers of the whole-number profile
+-- ---- constants
 
 abbrev pub value_of : Text → ℕ
 value_of digits = fold (λ n b. 10 * n + (b - 48)) 0 digits
@@ -54,20 +85,26 @@ begins_exponent z =
     let is_signed = slice_index z 1 == 43 || slice_index z 1 == 45 in
     is_e && (is_ascii_digit (slice_index z 1) || (is_signed && is_ascii_digit (slice_index z 2)))
 
--- the digits are a number of the profile before this rest: no point and no exponent follows
+-- the digits are a number of 64 bits before this rest: no point and no exponent follows
 abbrev pub is_whole : Text → Text → Bool
 is_whole digits rest =
     nat_le (value_of digits) 9223372036854775807 && (not (slice_index rest 0 == 46) && not (begins_exponent rest))
 
-abbrev pub IsWhole : TokenKind → Text → Text → Type 0
-IsWhole Number text rest = is_whole text rest ≡ true
-IsWhole kind text rest = Unit {0}
+-- Which numbers the profile has: of doubles those up to the largest, and before any rest, since a numeral is longest
+-- before it.
+abbrev pub is_constant : Numbers → Text → Text → Bool
+is_constant Whole digits rest = is_whole digits rest
+is_constant Double numeral rest = is_ok (number numeral)
+
+abbrev pub IsConstant : Numbers → TokenKind → Text → Text → Type 0
+IsConstant numbers Number text rest = is_constant numbers text rest ≡ true
+IsConstant numbers kind text rest = Unit {0}
 
 -- the token that stands first: the longest, and where it is a number one of the profile
-pub record IsFirst (operand : Bool) (kind : TokenKind) (text rest : Text) : Type 0 where
-  pub token : IsToken operand kind text rest
-  pub longest : NoLonger operand text rest
-  pub whole : IsWhole kind text rest
+pub record IsFirst (numbers : Numbers) (operand : Bool) (kind : TokenKind) (text rest : Text) : Type 0 where
+  pub token : IsToken numbers operand kind text rest
+  pub longest : NoLonger numbers operand text rest
+  pub constant : IsConstant numbers kind text rest
 
 -- ---- what a token carries
 

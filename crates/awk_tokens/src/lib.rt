@@ -8,6 +8,7 @@
 #![tactic(auto)]
 
 mod kinds;
+pub mod laws;
 mod names;
 mod reading;
 mod scan;

@@ -11,6 +11,7 @@ use crate::kinds::TokenKind;
 use crate::scan::{first_token, gap_len};
 use crate::syntax_error::SyntaxError;
 use crate::token::Token;
+use awk_numbers::number::Numbers;
 use awk_text::Memory;
 use awk_text::octets::Octets;
 use awk_text::place::Place;
@@ -111,6 +112,7 @@ fn ends_operand(kind: TokenKind, text: &[u8]) -> bool
 /// The first token of what is left of a script, which begins with no separator, and its length.
 fn next_token(
     alloc: Global,
+    numbers: Numbers,
     operand: bool,
     rest: &[u8],
     start: usize,
@@ -118,10 +120,10 @@ fn next_token(
 ) -> Result<(Token, usize), SyntaxError>
     requires some { 0 < length rest.now }
     requires no_gap { scan.gap_len rest.now ≡ 0 }
-    ensures read { IfOk result (λ next. IsNext operand rest.now start place next.0 next.1) }
-    ensures refused { IfErr result (λ e. (e.code ≢ 9 → Stands operand e.code rest.now) × (e.place ≡ place)) }
+    ensures read { IfOk result (λ next. IsNext numbers operand rest.now start place next.0 next.1) }
+    ensures refused { IfErr result (λ e. (e.code ≢ 9 → Stands numbers operand e.code rest.now) × (e.place ≡ place)) }
 {
-    let (kind, len) = match first_token(operand, rest) {
+    let (kind, len) = match first_token(numbers, operand, rest) {
         Ok(found) => found,
         Err(code) => return Err(SyntaxError { code, place }),
     };
@@ -148,11 +150,11 @@ fn next_token(
 /// Separators and comments stand between them, and the newline is a sign. A script is refused by S1,
 /// S2 or S3 at the first byte, string or pattern, or number that the lexical rule has no place for;
 /// by S9, at some place, where memory was refused. POSIX.1-2017 XCU awk, "Lexical Conventions".
-pub fn tokens(alloc: Global, script: &[u8]) -> Result<Vec<Token>, SyntaxError>
-    ensures read { IfOk result (λ tokens. Reads script.now tokens.items) }
-    ensures only { IfOk result (λ tokens. IsOnly script.now tokens.items) }
-    ensures refused { IfErr result (λ e. e.code ≢ 9 → Refuses script.now e.code e.place) }
-    ensures unread { IfErr result (λ e. e.code ≢ 9 → IsUnread script.now) }
+pub fn tokens(alloc: Global, numbers: Numbers, script: &[u8]) -> Result<Vec<Token>, SyntaxError>
+    ensures read { IfOk result (λ tokens. Reads numbers script.now tokens.items) }
+    ensures only { IfOk result (λ tokens. IsOnly numbers script.now tokens.items) }
+    ensures refused { IfErr result (λ e. e.code ≢ 9 → Refuses numbers script.now e.code e.place) }
+    ensures unread { IfErr result (λ e. e.code ≢ 9 → IsUnread numbers script.now) }
 {
     let mut found = Vec::new(alloc);
     let mut place = Place { line: 1, column: 1 };
@@ -166,7 +168,7 @@ pub fn tokens(alloc: Global, script: &[u8]) -> Result<Vec<Token>, SyntaxError>
             start += gap;
             continue;
         }
-        let (token, len) = next_token(alloc, operand, rest, start, place)?;
+        let (token, len) = next_token(alloc, numbers, operand, rest, start, place)?;
         operand = !ends_operand(token.kind, token.text.bytes());
         place = token.end;
         start += len;

@@ -4,6 +4,7 @@ ghost use Rattle.std.specs.Prelude.{◌≡◌, ◌≢◌, ◌≤◌, ◌<◌, �
 ghost use Rattle.std.specs.Option.{option_copied};
 ghost use Rattle.std.specs.Char.{is_ascii_digit};
 ghost use Rattle.std.specs.List.{list_all};
+ghost use Rattle.awk_numbers.specs.Numerals.{constant};
 ghost use Rattle.awk_tokens.specs.Bytes as bytes;
 ghost use Rattle.awk_tokens.specs.Scan as spec;
 ghost use Rattle.awk_tokens.specs.Tokens.{value_of, begins_exponent, is_whole};
@@ -12,6 +13,8 @@ use crate::kinds::TokenKind;
 use crate::names::{begins_name, continues_name, word_kind};
 use crate::signs::sign_len;
 use crate::syntax_error::SyntaxError;
+use awk_numbers::number::Numbers;
+use awk_numbers::numeral::constant;
 
 /// Where in an extended regular expression a byte stands.
 #[derive(Clone, Copy)]
@@ -248,7 +251,7 @@ fn begins_exponent(z: &[u8]) -> bool
     is_e && (next.is_ascii_digit() || (is_signed && byte(z, 2).is_ascii_digit()))
 }
 
-/// The greatest number of the profile.
+/// The greatest whole number.
 const GREATEST: u64 = 9_223_372_036_854_775_807;
 
 /// Whether these digits are a number of the whole-number profile before this rest.
@@ -262,9 +265,9 @@ fn is_whole(digits: &[u8], rest: &[u8]) -> bool
 /// A token's kind and length, or the code of a refusal.
 pub type Scanned = Result<(TokenKind, usize), u8>;
 
-#[tactic(auto, using(crate::proofs::Runs::list_all_take), unfolding(crate::specs::Scan::number))]
-fn number(z: &[u8]) -> Scanned
-    ensures { result ≡ spec.number z.now }
+#[tactic(auto, using(crate::proofs::Runs::list_all_take))]
+fn whole(z: &[u8]) -> Scanned
+    ensures { result ≡ spec.whole z.now }
 {
     let n = digits_len(z);
     let (digits, rest) = z.split_at(n);
@@ -272,6 +275,25 @@ fn number(z: &[u8]) -> Scanned
         Ok((TokenKind::Number, n))
     } else {
         Err(SyntaxError::NUMBER)
+    }
+}
+
+fn double(z: &[u8]) -> Scanned
+    ensures { result ≡ spec.double (constant z.now) }
+{
+    match constant(z) {
+        Some((n, Ok(_))) => Ok((TokenKind::Number, n)),
+        _ => Err(SyntaxError::NUMBER),
+    }
+}
+
+#[tactic(auto, unfolding(crate::specs::Scan::number))]
+fn number(numbers: Numbers, z: &[u8]) -> Scanned
+    ensures { result ≡ spec.number numbers z.now }
+{
+    match numbers {
+        Numbers::Whole => whole(z),
+        Numbers::Double => double(z),
     }
 }
 
@@ -298,27 +320,30 @@ fn closed(kind: TokenKind, z: &[u8], rest: Option<&[u8]>) -> Scanned
 fn sign(z: &[u8]) -> Scanned
     ensures { result ≡ spec.sign z.now }
 {
-    let (b, next) = (byte(z, 0), byte(z, 1));
-    let n = sign_len(b, next);
-    if n != 0 {
-        Ok((TokenKind::Sign, n))
-    } else if b == b'.' && next.is_ascii_digit() {
-        Err(SyntaxError::NUMBER)
-    } else {
-        Err(SyntaxError::BYTE)
+    match sign_len(byte(z, 0), byte(z, 1)) {
+        0 => Err(SyntaxError::BYTE),
+        n => Ok((TokenKind::Sign, n)),
     }
+}
+
+#[tactic(auto, unfolding(crate::specs::Scan::begins_number))]
+/// Whether a number begins with these two bytes: a digit, or a point and a digit.
+fn begins_number(b: u8, next: u8) -> bool
+    ensures { result ≡ spec.begins_number b next }
+{
+    b.is_ascii_digit() || (b == b'.' && next.is_ascii_digit())
 }
 
 /// The token at the front of a text that begins with no separator: its kind and length, or the code
 /// of the refusal that stands there. `operand` says whether an operand may begin there.
 #[tactic(auto, unfolding(crate::specs::Scan::first_token))]
-pub fn first_token(operand: bool, z: &[u8]) -> Scanned
+pub fn first_token(numbers: Numbers, operand: bool, z: &[u8]) -> Scanned
     requires { 0 < length z.now }
-    ensures { result ≡ spec.first_token operand z.now }
+    ensures { result ≡ spec.first_token numbers operand z.now }
 {
     let b = z[0];
-    if b.is_ascii_digit() {
-        number(z)
+    if begins_number(b, byte(z, 1)) {
+        number(numbers, z)
     } else if begins_name(b) {
         Ok(word(z))
     } else if b == b'"' {

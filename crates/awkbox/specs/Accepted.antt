@@ -1,5 +1,6 @@
 -- What is run, and what is refused before a run: the policy first, then the script, then the assignments of `-v`.
 use Rattle.std.specs.Prelude.{◌≡◌, ◌≢◌, ℕ, ◌+◌, List, [], ◌∷◌, Option, Some, None, ◌⊎◌, if◌then◌else◌}
+use Rattle.awk_numbers.specs.declared.number.Numbers.TheVariants.{Whole}
 use Rattle.awk_resolve.specs.Assigns.{can_assign}
 use Rattle.awk_resolve.specs.declared.kinds.Kinds.{Kinds}
 use Rattle.awk_parse.specs.Scripts.{IsSpelled, IsRefused as IsRefusedByGrammar}
@@ -16,7 +17,7 @@ use Rattle.awkbox.specs.declared.accepting.Refusal.TheVariants.{Policy, Script, 
 -- the bytes are read as tokens, which spell the script
 pub record ReadsScript (script : List ℕ) (s : Spelled) : Type 0 where
   pub tokens : List Token
-  pub reads : Reads script tokens
+  pub reads : Reads Whole script tokens
   pub spelled : IsSpelled tokens s
 
 -- The number of the first pair of `-v` whose name is one that a host may not set; they are numbered from n.
@@ -34,8 +35,8 @@ pub record Accepted (policy script : List ℕ) (pairs : List (List ℕ × List �
 -- Why the bytes spell no script: S9 is want of memory, S1 to S3 stand where no token does, and S4 to S8 where tokens
 -- do.
 abbrev pub IsScriptRefused : List ℕ → SyntaxError → Type 0
-IsScriptRefused script e = (e.code ≢ 9 → Refuses script e.code e.place)
-    ⊎ ((tokens : List Token) × Reads script tokens × IsRefusedByGrammar tokens e)
+IsScriptRefused script e = (e.code ≢ 9 → Refuses Whole script e.code e.place)
+    ⊎ ((tokens : List Token) × Reads Whole script tokens × IsRefusedByGrammar tokens e)
 
 -- the texts write some policy and spell a script, of which this pair is the first that may not be set
 pub record IsBarred (policy script : List ℕ) (pairs : List (List ℕ × List ℕ)) (n : ℕ) : Type 0 where

@@ -1,5 +1,6 @@
 -- Which script a text spells, and why others are refused.
 use Rattle.std.specs.Prelude.{◌≢◌, ℕ, List, ◌⊎◌}
+use Rattle.awk_numbers.specs.declared.number.Numbers.TheVariants.{Whole}
 use Rattle.awk_parse.specs.SpellsScripts.{SpellsScript}
 use Rattle.awk_parse.specs.Scripts.{IsScriptOf, IsRefused}
 use Rattle.awk_parse.specs.declared.script.Script.{Script}
@@ -11,11 +12,12 @@ use Rattle.awk_tree.specs.Tree.{Entry}
 -- the text is read as tokens that spell these items of this script
 pub record Spells (text : List ℕ) (items : List Entry) (script : Script) : Type 0 where
   pub tokens : List Token
-  pub reads : Reads text tokens
+  pub reads : Reads Whole text tokens
   pub spells : SpellsScript tokens items
   pub of : IsScriptOf items script
 
 -- S1 to S3 stand in the text where they say, and else the tokens of the text are refused so; S9 is want of memory
 abbrev pub IsScriptRefused : List ℕ → SyntaxError → Type 0
 IsScriptRefused text e =
-    e.code ≢ 9 → Refuses text e.code e.place ⊎ ((tokens : List Token) × Reads text tokens × IsRefused tokens e)
+    e.code ≢ 9 → Refuses Whole text e.code e.place ⊎
+    ((tokens : List Token) × Reads Whole text tokens × IsRefused tokens e)

@@ -6,6 +6,7 @@ ghost use Rattle.awkbox.specs.Accepted.{Accepted, IsRefused, IsScriptRefused, Re
 ghost use Rattle.awkbox.specs.Bases.{IsBaseRefused};
 ghost use Rattle.box_policy.specs.Rebased.{base_refusal, rebased};
 
+use awk_numbers::number::Numbers;
 use awk_parse::{Script, parse};
 use awk_run::Setup;
 use awk_text::octets::Octets;
@@ -31,7 +32,7 @@ fn read_script(alloc: Global, script: &[u8]) -> Result<Script, SyntaxError>
     ensures ok { IfOk result (ReadsScript script.now) }
     ensures refused { IfErr result (IsScriptRefused script.now) }
 {
-    let tokens = match tokens(alloc, script) {
+    let tokens = match tokens(alloc, Numbers::Whole, script) {
         Ok(tokens) => tokens,
         Err(error) => return Err(error),
     };

@@ -6,6 +6,7 @@ ghost use Rattle.box_policy.specs.Rebased.{WrittenUnder};
 ghost use Rattle.std.specs.Prelude.{IfErr, IfOk, List, option_map};
 
 use crate::listing_refusal::ListingRefusal;
+use awk_numbers::number::Numbers;
 use awk_parse::{Script, parse};
 use awk_tokens::{SyntaxError, tokens};
 use box_listing::{Site, Verdict, check, sites};
@@ -17,7 +18,7 @@ fn script_of(alloc: Global, text: &[u8]) -> Result<Script, SyntaxError>
     ensures ok { IfOk result (λ script. (items : List Entry) × Spells text.now items script) }
     ensures refused { IfErr result (IsScriptRefused text.now) }
 {
-    let tokens = tokens(alloc, text)?;
+    let tokens = tokens(alloc, Numbers::Whole, text)?;
     parse(alloc, tokens.as_slice())
 }
 

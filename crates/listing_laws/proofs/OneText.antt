@@ -5,6 +5,7 @@ use Rattle.std.specs.List.{AllZip}
 use Rattle.toml.specs.Data.{Members, get_member}
 use Rattle.toml.specs.Parse.{parse_document}
 use Rattle.awk_lowering.specs.Programs.{program}
+use Rattle.awk_numbers.specs.declared.number.Numbers.TheVariants.{Whole}
 use Rattle.awk_parse.proofs.Laws.{scripts_have_one_tree}
 use Rattle.awk_parse.specs.Scripts.{IsScriptOf}
 use Rattle.awk_parse.specs.SpellsScripts.{SpellsScript}
@@ -104,6 +105,6 @@ same_script items s r x y =
 
 pub one_program : OneProgram
 one_program text tokens others s r reads is too again =
-    let same : others ≡ tokens = read_once text tokens others reads too in
+    let same : others ≡ tokens = read_once Whole text tokens others reads too in
     let items = scripts_have_one_tree tokens again.0 is.0 (subst (λ z. SpellsScript z again.0) same again.1) is.1 in
     same_script is.0 s r is.2 (subst (λ z. IsScriptOf z r) items again.2)

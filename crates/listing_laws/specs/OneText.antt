@@ -1,5 +1,6 @@
 -- What a text says is one thing: it writes one policy, and it spells scripts of one program.
 use Rattle.std.specs.Prelude.{◌≡◌, ℕ, List}
+use Rattle.awk_numbers.specs.declared.number.Numbers.TheVariants.{Whole}
 use Rattle.awk_parse.specs.Scripts.{IsSpelled}
 use Rattle.awk_parse.specs.declared.script.Script.{Script}
 use Rattle.awk_program.specs.View.{view_program}
@@ -24,4 +25,4 @@ pub record SameScript (s r : Script) : Type 0 where
 abbrev pub OneProgram : Type 0
 OneProgram =
     (text : List ℕ) (tokens others : List Token) (s r : Script) →
-    Reads text tokens → IsSpelled tokens s → Reads text others → IsSpelled others r → SameScript s r
+    Reads Whole text tokens → IsSpelled tokens s → Reads Whole text others → IsSpelled others r → SameScript s r

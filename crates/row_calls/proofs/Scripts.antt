@@ -3,6 +3,7 @@ use Rattle.std.specs.Prelude.{Bool, true, false, ◌&&◌, map, ℕ, zero, suc, 
 use Rattle.std.specs.Prelude.{Option, Some, None, Result, Ok, Err}
 use Rattle.std.specs.List.{filter, list_any}
 use Rattle.std.specs.Str.{bytes_eq}
+use Rattle.awk_numbers.specs.declared.number.Numbers.TheVariants.{Whole}
 use Rattle.awk_tokens.specs.declared.token.Token.{Token}
 use Rattle.awk_tokens.specs.Reads.{operand_after, token_of}
 use Rattle.std.specs.Fmt as fmt
@@ -36,7 +37,7 @@ taken go front rest ts (Ok found) = go (front ++ take found.1 rest) (drop found.
     (ts ++ token_of front found.0 (take found.1 rest) ∷ [])
 
 abbrev pub by_gap : Reading → ℕ → Text → Text → List Token → Option (List Token)
-by_gap go zero front rest ts = taken go front rest ts (scan.first_token (operand_after ts) rest)
+by_gap go zero front rest ts = taken go front rest ts (scan.first_token Whole (operand_after ts) rest)
 by_gap go (suc n) front rest ts = go (front ++ take (suc n) rest) (drop (suc n) rest) ts
 
 abbrev pub read : ℕ → Reading
@@ -50,20 +51,21 @@ read (suc n) front (b ∷ rest) ts = by_gap (read n) (scan.gap_len (b ∷ rest))
 unfoldable pub rules : ℕ
 unfolding fmt.digits escapes.escaped_byte escapes.one_byte escapes.escape_of quoted.quoted_byte signs.sign_len
     ere_token.sign ere_token.lead bracket.class_ranges bracket.class bracket.point bracket.range_from escape.escape
-    scan.gap_len scan.class_len scan.number scan.word scan.sign scan.first_token input.any input.one input.exactly
-    input.many_from word.terminal_of ex.in_name ex.in_names ex.in_rest ex.next_in_list ex.commas ex.list ex.perhaps_next
-    ex.list_or_none ex.arguments ex.named ex.field_of ex.lvalue ex.target ex.source ex.getline ex.one_argument ex.of_one
-    ex.of_two ex.last_next ex.of_two_or_three ex.of_list ex.one_or_none ex.of_one_or_none ex.length_of ex.split_of
-    ex.perhaps_lvalue ex.last_lvalue ex.substitute_of ex.builtin ex.in_paren ex.call_of ex.prim ex.step_before
-    ex.signed_by ex.operand ex.step_after ex.inc ex.power_rest ex.unary ex.factor ex.factors ex.product_rest ex.addend
-    ex.addends ex.sum_rest ex.part ex.parts ex.concat_rest ex.cat ex.one_pipe ex.pipes ex.pipe_rest ex.pipe
-    ex.compare_rest ex.cmp ex.match_rest ex.unary_rest ex.from_paren ex.isin ex.assigned ex.conjunct ex.next_conjunct
-    ex.conjuncts ex.and_rest ex.next_disjunct ex.disjuncts ex.or_rest ex.then_branch ex.choose_rest ex.expr_rest
-    ex.expression ex.expr st.until_from st.ended st.perhaps_here st.next_printed st.more_printed st.printed_rest
-    st.printed_from st.printed_paren st.printed st.printed_or_none st.redirection st.print st.printf st.delete st.simple
-    st.condition st.perhaps_until st.else_rest st.if_of st.while_of st.do_of st.loop_rest st.each_rest st.for_rest
-    st.for_of st.statement_here st.statements st.braces st.statement st.action st.whole_expr st.pattern st.shown
-    st.rule_of st.next_param st.more_params st.params st.function_name st.function_of st.item st.script
+    scan.gap_len scan.class_len scan.begins_number scan.number scan.word scan.sign scan.first_token input.any input.one
+    input.exactly input.many_from word.terminal_of ex.in_name ex.in_names ex.in_rest ex.next_in_list ex.commas ex.list
+    ex.perhaps_next ex.list_or_none ex.arguments ex.named ex.field_of ex.lvalue ex.target ex.source ex.getline
+    ex.one_argument ex.of_one ex.of_two ex.last_next ex.of_two_or_three ex.of_list ex.one_or_none ex.of_one_or_none
+    ex.length_of ex.split_of ex.perhaps_lvalue ex.last_lvalue ex.substitute_of ex.builtin ex.in_paren ex.call_of ex.prim
+    ex.step_before ex.signed_by ex.operand ex.step_after ex.inc ex.power_rest ex.unary ex.factor ex.factors
+    ex.product_rest ex.addend ex.addends ex.sum_rest ex.part ex.parts ex.concat_rest ex.cat ex.one_pipe ex.pipes
+    ex.pipe_rest ex.pipe ex.compare_rest ex.cmp ex.match_rest ex.unary_rest ex.from_paren ex.isin ex.assigned
+    ex.conjunct ex.next_conjunct ex.conjuncts ex.and_rest ex.next_disjunct ex.disjuncts ex.or_rest ex.then_branch
+    ex.choose_rest ex.expr_rest ex.expression ex.expr st.until_from st.ended st.perhaps_here st.next_printed
+    st.more_printed st.printed_rest st.printed_from st.printed_paren st.printed st.printed_or_none st.redirection
+    st.print st.printf st.delete st.simple st.condition st.perhaps_until st.else_rest st.if_of st.while_of st.do_of
+    st.loop_rest st.each_rest st.for_rest st.for_of st.statement_here st.statements st.braces st.statement st.action
+    st.whole_expr st.pattern st.shown st.rule_of st.next_param st.more_params st.params st.function_name st.function_of
+    st.item st.script
 rules = 0
 
 abbrev pub parsed : {E : Type 0} → Result (List Entry × List Token) E → List Entry

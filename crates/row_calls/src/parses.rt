@@ -1,4 +1,5 @@
 // Scripts as they are parsed: which are accepted, how they are spelled, and what they ask of a host.
+use awk_numbers::number::Numbers;
 use awk_parse::{Script, canon, parse};
 use awk_text::Memory;
 use awk_tokens::{SyntaxError, Token, TokenKind, tokens};
@@ -10,7 +11,7 @@ use std::alloc::Global;
 
 /// The script of this text.
 pub fn script(alloc: Global, text: &[u8]) -> Result<Script, Problem> {
-    let tokens = tokens(alloc, text)?;
+    let tokens = tokens(alloc, Numbers::Whole, text)?;
     Ok(parse(alloc, &tokens)?)
 }
 

@@ -1,4 +1,5 @@
 // The tokens of scripts.
+use awk_numbers::number::Numbers;
 use awk_text::Memory;
 use awk_tokens::{Token, TokenKind, tokens};
 use library_calls::args::{name, text};
@@ -56,10 +57,11 @@ pub fn listed(alloc: Global, tokens: &[Token], are_spans: bool) -> Shown {
 
 /// The answer of the call.
 pub fn call(alloc: Global, args: &[Arg<'_>]) -> Shown {
-    let are_spans = match name(args, 0) {
-        "tokens" => false,
-        "spans" => true,
+    let (numbers, are_spans) = match name(args, 0) {
+        "tokens" => (Numbers::Whole, false),
+        "doubles" => (Numbers::Double, false),
+        "spans" => (Numbers::Whole, true),
         _ => return Err(Problem::NoCall),
     };
-    listed(alloc, &tokens(alloc, text(args, 1))?, are_spans)
+    listed(alloc, &tokens(alloc, numbers, text(args, 1))?, are_spans)
 }
