@@ -1,7 +1,6 @@
 // What a part of a program is printed with.
 
-ghost use Rattle.std.specs.Prelude.{◌≡◌, ◌+◌, IfSome, map};
-ghost use Rattle.awk_printer.specs.Words.{names_in};
+ghost use Rattle.std.specs.Prelude.{◌≡◌, ◌+◌, IfSome};
 
 use awk_program::GlobalName;
 
@@ -16,9 +15,7 @@ pub struct Printing<'a> {
 
 impl<'a> Printing<'a> {
     /// With more levels than any program has: one of that many boxes has no room in memory.
-    pub fn of(names: &'a [GlobalName]) -> Printing<'a>
-        ensures { names_in result ≡ map (λ n. n.text) names.now }
-    {
+    pub fn of(names: &'a [GlobalName]) -> Printing<'a> {
         Printing {
             names,
             level: u32::MAX,
@@ -27,7 +24,6 @@ impl<'a> Printing<'a> {
 
     /// One level further down, or `None` where no level is left.
     pub fn below(self) -> Option<Printing<'a>>
-        ensures names { IfSome result (λ below. names_in below ≡ names_in self.entry) }
         ensures level { IfSome result (λ below. below.level + 1 ≡ self.entry.level) }
     {
         let level = self.level.checked_sub(1)?;

@@ -1,17 +1,5 @@
 // Expressions. Each counts down a level of the context that its parts are printed in.
 
-ghost use Rattle.std.specs.Prelude.{[], ◌∷◌, ◌++◌, codes, map, option_map};
-ghost use Rattle.awk_printer.specs.Pages.{Adds};
-ghost use Rattle.awk_printer.specs.Printed.{variable_text, expression_text, reference_text, ere_text, expressions_text};
-ghost use Rattle.awk_printer.specs.Printed.{list_text, perhaps_text, terms_text, joins_text, pipes_text};
-ghost use Rattle.awk_printer.specs.Printed.{arguments_text};
-ghost use Rattle.awk_printer.specs.Words as spec;
-ghost use Rattle.awk_printer.specs.Words.{names_in};
-ghost use Rattle.awk_program.specs.Program as p;
-ghost use Rattle.awk_program.specs.Program.{terms_of, joins_of, expressions_of};
-ghost use Rattle.awk_program.specs.View.{variable_of, view, view_target, view_ere, view_term, view_joined, view_pipes};
-ghost use Rattle.awk_program.specs.View.{view_arguments};
-
 use crate::context::Printing;
 use crate::page::{Page, cut};
 use crate::pieces::{
@@ -25,9 +13,7 @@ use awk_text::place::Place;
 
 /// Prints an expression, or gives up where no level is left.
 #[cycle(expression)]
-pub fn expression(context: Printing<'_>, e: &Expr, out: &mut Page)
-    ensures { Adds out.old out.new (expression_text (view (names_in context.entry) e.now)) }
-{
+pub fn expression(context: Printing<'_>, e: &Expr, out: &mut Page) {
     match context.below() {
         Some(below) => expression_of_parts(below, e, out),
         None => cut(out),
@@ -36,9 +22,7 @@ pub fn expression(context: Printing<'_>, e: &Expr, out: &mut Page)
 
 /// An expression, whose parts are printed in this context.
 #[cycle(expression)]
-fn expression_of_parts(context: Printing<'_>, e: &Expr, out: &mut Page)
-    ensures { Adds out.old out.new (expression_text (view (names_in context.entry) e.now)) }
-{
+fn expression_of_parts(context: Printing<'_>, e: &Expr, out: &mut Page) {
     match e {
         Expr::Number(n) => number(*n, out),
         Expr::Text(x) => quoted(b'"', x.bytes(), out),
@@ -77,18 +61,14 @@ fn expression_of_parts(context: Printing<'_>, e: &Expr, out: &mut Page)
 }
 
 /// `$0 ~` an ERE
-fn record_pattern(q: Place, x: &[u8], out: &mut Page)
-    ensures { Adds out.old out.new (expression_text (p.pattern q x.now)) }
-{
+fn record_pattern(q: Place, x: &[u8], out: &mut Page) {
     open_at("record~", q, out);
     quoted(b'/', x, out);
     close(out)
 }
 
 /// A form of one variable.
-pub fn of_variable(context: Printing<'_>, head: &str, v: Variable, out: &mut Page)
-    ensures { Adds out.old out.new (spec.form head.now (variable_text (variable_of (names_in context.entry) v) ∷ [])) }
-{
+pub fn of_variable(context: Printing<'_>, head: &str, v: Variable, out: &mut Page) {
     open(head, out);
     variable(context, v, out);
     close(out)
@@ -96,9 +76,7 @@ pub fn of_variable(context: Printing<'_>, head: &str, v: Variable, out: &mut Pag
 
 /// A form of one expression.
 #[cycle(expression)]
-fn one(context: Printing<'_>, head: &str, x: &Expr, out: &mut Page)
-    ensures { Adds out.old out.new (spec.form head.now (expression_text (view (names_in context.entry) x.now) ∷ [])) }
-{
+fn one(context: Printing<'_>, head: &str, x: &Expr, out: &mut Page) {
     open(head, out);
     expression(context, x, out);
     close(out)
@@ -106,11 +84,7 @@ fn one(context: Printing<'_>, head: &str, x: &Expr, out: &mut Page)
 
 /// A form of two expressions.
 #[cycle(expression)]
-fn two(context: Printing<'_>, head: &str, x: &Expr, y: &Expr, out: &mut Page)
-    ensures { Adds out.old out.new
-        (spec.form head.now (expression_text (view (names_in context.entry) x.now)
-        ∷ expression_text (view (names_in context.entry) y.now) ∷ [])) }
-{
+fn two(context: Printing<'_>, head: &str, x: &Expr, y: &Expr, out: &mut Page) {
     open(head, out);
     expression(context, x, out);
     expression(context, y, out);
@@ -119,12 +93,7 @@ fn two(context: Printing<'_>, head: &str, x: &Expr, y: &Expr, out: &mut Page)
 
 /// `test ? then : else`
 #[cycle(expression)]
-fn choice(context: Printing<'_>, x: &Expr, y: &Expr, z: &Expr, out: &mut Page)
-    ensures { Adds out.old out.new
-        (spec.form (codes "?")
-        (expression_text (view (names_in context.entry) x.now) ∷ expression_text (view (names_in context.entry) y.now)
-        ∷ expression_text (view (names_in context.entry) z.now) ∷ [])) }
-{
+fn choice(context: Printing<'_>, x: &Expr, y: &Expr, z: &Expr, out: &mut Page) {
     open("?", out);
     expression(context, x, out);
     expression(context, y, out);
@@ -134,10 +103,7 @@ fn choice(context: Printing<'_>, x: &Expr, y: &Expr, z: &Expr, out: &mut Page)
 
 /// A form of a place and an expression.
 #[cycle(expression)]
-pub fn at_one(context: Printing<'_>, head: &str, q: Place, x: &Expr, out: &mut Page)
-    ensures { Adds out.old out.new
-        (spec.form head.now (spec.placed q ∷ expression_text (view (names_in context.entry) x.now) ∷ [])) }
-{
+pub fn at_one(context: Printing<'_>, head: &str, q: Place, x: &Expr, out: &mut Page) {
     open_at(head, q, out);
     expression(context, x, out);
     close(out)
@@ -145,10 +111,7 @@ pub fn at_one(context: Printing<'_>, head: &str, q: Place, x: &Expr, out: &mut P
 
 /// A form of a place and a list.
 #[cycle(expression)]
-fn at_list(context: Printing<'_>, head: &str, q: Place, xs: &[Expr], out: &mut Page)
-    ensures { Adds out.old out.new
-        (spec.form head.now (spec.placed q ∷ list_text (map (view (names_in context.entry)) xs.now) ∷ [])) }
-{
+fn at_list(context: Printing<'_>, head: &str, q: Place, xs: &[Expr], out: &mut Page) {
     open_at(head, q, out);
     list(context, xs, out);
     close(out)
@@ -156,10 +119,7 @@ fn at_list(context: Printing<'_>, head: &str, q: Place, xs: &[Expr], out: &mut P
 
 /// A form of a place and what is set.
 #[cycle(expression)]
-fn at_target(context: Printing<'_>, head: &str, q: Place, r: &Target<Expr>, out: &mut Page)
-    ensures { Adds out.old out.new
-        (spec.form head.now (spec.placed q ∷ reference_text (view_target (names_in context.entry) r.now) ∷ [])) }
-{
+fn at_target(context: Printing<'_>, head: &str, q: Place, r: &Target<Expr>, out: &mut Page) {
     open_at(head, q, out);
     target(context, r, out);
     close(out)
@@ -167,11 +127,14 @@ fn at_target(context: Printing<'_>, head: &str, q: Place, r: &Target<Expr>, out:
 
 /// A form of a place, what is set, and an expression.
 #[cycle(expression)]
-fn setting(context: Printing<'_>, head: &str, q: Place, r: &Target<Expr>, x: &Expr, out: &mut Page)
-    ensures { Adds out.old out.new
-        (spec.form head.now (spec.placed q ∷ reference_text (view_target (names_in context.entry) r.now)
-        ∷ expression_text (view (names_in context.entry) x.now) ∷ [])) }
-{
+fn setting(
+    context: Printing<'_>,
+    head: &str,
+    q: Place,
+    r: &Target<Expr>,
+    x: &Expr,
+    out: &mut Page,
+) {
     open_at(head, q, out);
     target(context, r, out);
     expression(context, x, out);
@@ -187,11 +150,7 @@ fn at_match(
     x: &Expr,
     y: &Pattern<Expr>,
     out: &mut Page,
-)
-    ensures { Adds out.old out.new
-        (spec.form head.now (spec.placed q ∷ expression_text (view (names_in context.entry) x.now)
-        ∷ ere_text (view_ere (names_in context.entry) y.now) ∷ [])) }
-{
+) {
     open_at(head, q, out);
     expression(context, x, out);
     ere(context, y, out);
@@ -200,11 +159,7 @@ fn at_match(
 
 /// A form of an expression and a list.
 #[cycle(expression)]
-fn many(context: Printing<'_>, head: &str, x: &Expr, xs: &[Expr], out: &mut Page)
-    ensures { Adds out.old out.new
-        (spec.form head.now (expression_text (view (names_in context.entry) x.now)
-        ∷ list_text (map (view (names_in context.entry)) xs.now) ∷ [])) }
-{
+fn many(context: Printing<'_>, head: &str, x: &Expr, xs: &[Expr], out: &mut Page) {
     open(head, out);
     expression(context, x, out);
     list(context, xs, out);
@@ -212,11 +167,7 @@ fn many(context: Printing<'_>, head: &str, x: &Expr, xs: &[Expr], out: &mut Page
 }
 
 #[cycle(expression)]
-fn member(context: Printing<'_>, x: &Expr, vs: &[Variable], out: &mut Page)
-    ensures { Adds out.old out.new
-        (expression_text (p.member (view (names_in context.entry) x.now)
-        (map (variable_of (names_in context.entry)) vs.now))) }
-{
+fn member(context: Printing<'_>, x: &Expr, vs: &[Variable], out: &mut Page) {
     open("in", out);
     expression(context, x, out);
     variables(context, vs, out);
@@ -224,11 +175,7 @@ fn member(context: Printing<'_>, x: &Expr, vs: &[Variable], out: &mut Page)
 }
 
 #[cycle(expression)]
-fn group(context: Printing<'_>, q: Place, xs: &[Expr], vs: &[Variable], out: &mut Page)
-    ensures { Adds out.old out.new
-        (expression_text (p.group q (expressions_of (map (view (names_in context.entry)) xs.now))
-        (map (variable_of (names_in context.entry)) vs.now))) }
-{
+fn group(context: Printing<'_>, q: Place, xs: &[Expr], vs: &[Variable], out: &mut Page) {
     open_at("in", q, out);
     open("list", out);
     list(context, xs, out);
@@ -239,12 +186,14 @@ fn group(context: Printing<'_>, q: Place, xs: &[Expr], vs: &[Variable], out: &mu
 
 /// A `split` behind its place.
 #[cycle(expression)]
-fn split(context: Printing<'_>, x: &Expr, at: Place, v: Variable, y: &Pattern<Expr>, out: &mut Page)
-    ensures { Adds out.old out.new
-        (spec.closed (expression_text (view (names_in context.entry) x.now) ∷ spec.placed at
-        ∷ variable_text (variable_of (names_in context.entry) v) ∷ ere_text (view_ere (names_in context.entry) y.now)
-        ∷ [])) }
-{
+fn split(
+    context: Printing<'_>,
+    x: &Expr,
+    at: Place,
+    v: Variable,
+    y: &Pattern<Expr>,
+    out: &mut Page,
+) {
     expression(context, x, out);
     place(at, out);
     variable(context, v, out);
@@ -254,12 +203,13 @@ fn split(context: Printing<'_>, x: &Expr, at: Place, v: Variable, y: &Pattern<Ex
 
 /// A `sub` or a `gsub` behind its place.
 #[cycle(expression)]
-fn substitute(context: Printing<'_>, x: &Pattern<Expr>, y: &Expr, r: &Target<Expr>, out: &mut Page)
-    ensures { Adds out.old out.new
-        (spec.closed (ere_text (view_ere (names_in context.entry) x.now)
-        ∷ expression_text (view (names_in context.entry) y.now)
-        ∷ reference_text (view_target (names_in context.entry) r.now) ∷ [])) }
-{
+fn substitute(
+    context: Printing<'_>,
+    x: &Pattern<Expr>,
+    y: &Expr,
+    r: &Target<Expr>,
+    out: &mut Page,
+) {
     ere(context, x, out);
     expression(context, y, out);
     target(context, r, out);
@@ -268,9 +218,7 @@ fn substitute(context: Printing<'_>, x: &Pattern<Expr>, y: &Expr, r: &Target<Exp
 
 /// Whatever is read or set.
 #[cycle(expression)]
-fn target(context: Printing<'_>, r: &Target<Expr>, out: &mut Page)
-    ensures { Adds out.old out.new (reference_text (view_target (names_in context.entry) r.now)) }
-{
+fn target(context: Printing<'_>, r: &Target<Expr>, out: &mut Page) {
     match r {
         Target::Variable(v) => variable(context, *v, out),
         Target::Element(q, v, xs) => element(context, "[]", *q, *v, xs.as_slice(), out),
@@ -287,11 +235,7 @@ pub fn element(
     v: Variable,
     xs: &[Expr],
     out: &mut Page,
-)
-    ensures { Adds out.old out.new
-        (spec.form head.now (spec.placed q ∷ variable_text (variable_of (names_in context.entry) v)
-        ∷ list_text (map (view (names_in context.entry)) xs.now) ∷ [])) }
-{
+) {
     open_at(head, q, out);
     variable(context, v, out);
     list(context, xs, out);
@@ -300,9 +244,7 @@ pub fn element(
 
 /// What stands where a pattern is wanted.
 #[cycle(expression)]
-fn ere(context: Printing<'_>, x: &Pattern<Expr>, out: &mut Page)
-    ensures { Adds out.old out.new (ere_text (view_ere (names_in context.entry) x.now)) }
-{
+fn ere(context: Printing<'_>, x: &Pattern<Expr>, out: &mut Page) {
     match x {
         Pattern::Constant(q, x) => {
             place(*q, out);
@@ -313,18 +255,14 @@ fn ere(context: Printing<'_>, x: &Pattern<Expr>, out: &mut Page)
 }
 
 #[cycle(expression)]
-pub fn list(context: Printing<'_>, xs: &[Expr], out: &mut Page)
-    ensures { Adds out.old out.new (list_text (map (view (names_in context.entry)) xs.now)) }
-{
+pub fn list(context: Printing<'_>, xs: &[Expr], out: &mut Page) {
     for x in xs {
         expression(context, x, out);
     }
 }
 
 /// An expression that may be absent.
-pub fn perhaps(context: Printing<'_>, x: &Option<Expr>, out: &mut Page)
-    ensures { Adds out.old out.new (perhaps_text (option_map (view (names_in context.entry)) x.now)) }
-{
+pub fn perhaps(context: Printing<'_>, x: &Option<Expr>, out: &mut Page) {
     match x {
         None => text(" -", out),
         Some(x) => expression(context, x, out),
@@ -332,11 +270,7 @@ pub fn perhaps(context: Printing<'_>, x: &Option<Expr>, out: &mut Page)
 }
 
 #[cycle(expression)]
-fn chain(context: Printing<'_>, x: &Expr, xs: &[Term<Expr>], out: &mut Page)
-    ensures { Adds out.old out.new
-        (expression_text (p.chain (view (names_in context.entry) x.now)
-        (terms_of (map (view_term (names_in context.entry)) xs.now)))) }
-{
+fn chain(context: Printing<'_>, x: &Expr, xs: &[Term<Expr>], out: &mut Page) {
     open("chain", out);
     expression(context, x, out);
     terms(context, xs, out);
@@ -344,31 +278,21 @@ fn chain(context: Printing<'_>, x: &Expr, xs: &[Term<Expr>], out: &mut Page)
 }
 
 #[cycle(expression)]
-fn terms(context: Printing<'_>, xs: &[Term<Expr>], out: &mut Page)
-    ensures { Adds out.old out.new (terms_text (terms_of (map (view_term (names_in context.entry)) xs.now))) }
-{
+fn terms(context: Printing<'_>, xs: &[Term<Expr>], out: &mut Page) {
     for x in xs {
         term(context, x, out);
     }
 }
 
 #[cycle(expression)]
-fn term(context: Printing<'_>, x: &Term<Expr>, out: &mut Page)
-    ensures { Adds out.old out.new
-        (spec.word (spec.operator_text x.now.operator)
-        ++ (spec.placed x.now.place ++ expression_text (view (names_in context.entry) x.now.operand))) }
-{
+fn term(context: Printing<'_>, x: &Term<Expr>, out: &mut Page) {
     word(operator_text(x.operator).as_bytes(), out);
     place(x.place, out);
     expression(context, &x.operand, out)
 }
 
 #[cycle(expression)]
-fn concat(context: Printing<'_>, x: &Expr, xs: &[Joined<Expr>], out: &mut Page)
-    ensures { Adds out.old out.new
-        (expression_text (p.concat (view (names_in context.entry) x.now)
-        (joins_of (map (view_joined (names_in context.entry)) xs.now)))) }
-{
+fn concat(context: Printing<'_>, x: &Expr, xs: &[Joined<Expr>], out: &mut Page) {
     open("concat", out);
     expression(context, x, out);
     joins(context, xs, out);
@@ -376,28 +300,20 @@ fn concat(context: Printing<'_>, x: &Expr, xs: &[Joined<Expr>], out: &mut Page)
 }
 
 #[cycle(expression)]
-fn joins(context: Printing<'_>, xs: &[Joined<Expr>], out: &mut Page)
-    ensures { Adds out.old out.new (joins_text (joins_of (map (view_joined (names_in context.entry)) xs.now))) }
-{
+fn joins(context: Printing<'_>, xs: &[Joined<Expr>], out: &mut Page) {
     for x in xs {
         join(context, x, out);
     }
 }
 
 #[cycle(expression)]
-fn join(context: Printing<'_>, x: &Joined<Expr>, out: &mut Page)
-    ensures { Adds out.old out.new
-        (spec.placed x.now.place ++ expression_text (view (names_in context.entry) x.now.operand)) }
-{
+fn join(context: Printing<'_>, x: &Joined<Expr>, out: &mut Page) {
     place(x.place, out);
     expression(context, &x.operand, out)
 }
 
 #[cycle(expression)]
-fn pipe(context: Printing<'_>, x: &Expr, xs: &[Piped<Expr>], out: &mut Page)
-    ensures { Adds out.old out.new
-        (expression_text (p.pipe (view (names_in context.entry) x.now) (view_pipes (names_in context.entry) xs.now))) }
-{
+fn pipe(context: Printing<'_>, x: &Expr, xs: &[Piped<Expr>], out: &mut Page) {
     open("|getline", out);
     expression(context, x, out);
     pipes(context, xs, out);
@@ -405,27 +321,20 @@ fn pipe(context: Printing<'_>, x: &Expr, xs: &[Piped<Expr>], out: &mut Page)
 }
 
 #[cycle(expression)]
-fn pipes(context: Printing<'_>, xs: &[Piped<Expr>], out: &mut Page)
-    ensures { Adds out.old out.new (pipes_text (view_pipes (names_in context.entry) xs.now)) }
-{
+fn pipes(context: Printing<'_>, xs: &[Piped<Expr>], out: &mut Page) {
     for x in xs {
         piped(context, x, out);
     }
 }
 
 #[cycle(expression)]
-fn piped(context: Printing<'_>, x: &Piped<Expr>, out: &mut Page)
-    ensures { Adds out.old out.new
-        (spec.placed x.now.place ++ reference_text (view_target (names_in context.entry) x.now.target)) }
-{
+fn piped(context: Printing<'_>, x: &Piped<Expr>, out: &mut Page) {
     place(x.place, out);
     target(context, &x.target, out)
 }
 
 #[cycle(expression)]
-fn call(context: Printing<'_>, q: Place, f: u32, xs: &[Argument<Expr>], out: &mut Page)
-    ensures { Adds out.old out.new (expression_text (p.call q f (view_arguments (names_in context.entry) xs.now))) }
-{
+fn call(context: Printing<'_>, q: Place, f: u32, xs: &[Argument<Expr>], out: &mut Page) {
     open_at("call", q, out);
     ordinal(f as usize, out);
     arguments(context, xs, out);
@@ -433,18 +342,14 @@ fn call(context: Printing<'_>, q: Place, f: u32, xs: &[Argument<Expr>], out: &mu
 }
 
 #[cycle(expression)]
-fn arguments(context: Printing<'_>, xs: &[Argument<Expr>], out: &mut Page)
-    ensures { Adds out.old out.new (arguments_text (view_arguments (names_in context.entry) xs.now)) }
-{
+fn arguments(context: Printing<'_>, xs: &[Argument<Expr>], out: &mut Page) {
     for x in xs {
         argument(context, x, out);
     }
 }
 
 #[cycle(expression)]
-fn argument(context: Printing<'_>, x: &Argument<Expr>, out: &mut Page)
-    ensures { Adds out.old out.new (arguments_text (view_arguments (names_in context.entry) (x.now ∷ []))) }
-{
+fn argument(context: Printing<'_>, x: &Argument<Expr>, out: &mut Page) {
     match x {
         Argument::Value(x) => expression(context, x, out),
         Argument::Array(v) => {

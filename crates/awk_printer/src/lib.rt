@@ -1,9 +1,8 @@
 //! An awk program in the form that runs, printed for people who debug and for tests.
 //!
 //! The text shows what a script was made into: which variable or parameter a name is, how operands
-//! are grouped, which constants there are, and the places in the script that the program keeps. The
-//! function `program_text` of specs/Printed.antt says what it is. It is meant to have one reading, which no
-//! contract says.
+//! are grouped, which constants there are, and the places in the script that the program keeps. No contract
+//! says so, and awkbox shows the text nowhere: rows compare it with what was worked by hand.
 //!
 //! A line each has the variables of the script's own, with `[]` behind an array; the functions, with
 //! their number, their name and of each parameter `value` or `array`; the actions of `BEGIN`; the

@@ -1,8 +1,5 @@
 // What is printed so far.
 
-ghost use Rattle.std.specs.Prelude.{◌≡◌, true};
-ghost use Rattle.awk_printer.specs.Pages.{Adds};
-
 /// A text that grows until memory for it is refused once. What comes behind that is lost, so that
 /// a printer asks once at its end, and not behind each piece.
 #[derive(Drop)]
@@ -11,9 +8,7 @@ pub struct Page {
     pub is_cut: bool,
 }
 
-pub fn put(text: &[u8], out: &mut Page)
-    ensures { Adds out.old out.new text.now }
-{
+pub fn put(text: &[u8], out: &mut Page) {
     if out.is_cut {
         return;
     }
@@ -23,8 +18,6 @@ pub fn put(text: &[u8], out: &mut Page)
 }
 
 /// Gives up: nothing that is printed from here on counts.
-pub fn cut(out: &mut Page)
-    ensures { out.new.is_cut ≡ true }
-{
+pub fn cut(out: &mut Page) {
     out.is_cut = true;
 }

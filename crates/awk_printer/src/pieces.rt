@@ -1,83 +1,57 @@
 // Pieces of a printed program.
 
-ghost use Rattle.std.specs.Prelude.{codes, decimal, map};
-ghost use Rattle.std.specs.Fmt.{signed_decimal};
-ghost use Rattle.std.specs.List.{flat_map};
-ghost use Rattle.awk_printer.specs.Pages.{Adds};
-ghost use Rattle.awk_printer.specs.Printed.{variable_text, variables_text};
-ghost use Rattle.awk_printer.specs.Words as spec;
-ghost use Rattle.awk_program.specs.View.{variable_of};
-
 use crate::context::Printing;
 use crate::page::{Page, put};
 use awk_program::Variable;
 use awk_text::place::Place;
 use itoa::Buffer;
 
-pub fn text(text: &str, out: &mut Page)
-    ensures { Adds out.old out.new text.now }
-{
+pub fn text(text: &str, out: &mut Page) {
     put(text.as_bytes(), out)
 }
 
-pub fn word(text: &[u8], out: &mut Page)
-    ensures { Adds out.old out.new (spec.word text.now) }
-{
+pub fn word(text: &[u8], out: &mut Page) {
     put(b" ", out);
     put(text, out)
 }
 
 /// `(` and the name of a form.
-pub fn open(text: &str, out: &mut Page)
-    ensures { Adds out.old out.new (spec.opening text.now) }
-{
+pub fn open(text: &str, out: &mut Page) {
     put(b" (", out);
     put(text.as_bytes(), out)
 }
 
 /// `(`, the name of a form and its place.
-pub fn open_at(text: &str, at: Place, out: &mut Page)
-    ensures { Adds out.old out.new (spec.opening_at text.now at) }
-{
+pub fn open_at(text: &str, at: Place, out: &mut Page) {
     open(text, out);
     place(at, out)
 }
 
 /// The end of a form.
-pub fn close(out: &mut Page)
-    ensures { Adds out.old out.new (codes ")") }
-{
+pub fn close(out: &mut Page) {
     put(b")", out)
 }
 
-pub fn number(n: i64, out: &mut Page)
-    ensures { Adds out.old out.new (spec.word (signed_decimal n)) }
-{
+pub fn number(n: i64, out: &mut Page) {
     let mut buffer = Buffer::new();
     word(buffer.format(n).as_bytes(), out)
 }
 
 /// The number of a function.
-pub fn ordinal(n: usize, out: &mut Page)
-    ensures { Adds out.old out.new (spec.word (decimal n)) }
-{
+pub fn ordinal(n: usize, out: &mut Page) {
     let mut buffer = Buffer::new();
     word(buffer.format(n).as_bytes(), out)
 }
 
 /// `line:column`
-pub fn place(at: Place, out: &mut Page)
-    ensures { Adds out.old out.new (spec.placed at) }
-{
+pub fn place(at: Place, out: &mut Page) {
     let mut buffer = Buffer::new();
     word(buffer.format(at.line).as_bytes(), out);
     put(b":", out);
     put(buffer.format(at.column).as_bytes(), out)
 }
 
-fn octet(mark: u8, b: u8, out: &mut Page)
-    ensures { Adds out.old out.new (spec.escaped_octet mark b) }
-{
+fn octet(mark: u8, b: u8, out: &mut Page) {
     if b == mark || (b == b'\\' && mark == b'"') {
         put(&[b'\\', b], out)
     } else if b == b'\n' {
@@ -87,27 +61,21 @@ fn octet(mark: u8, b: u8, out: &mut Page)
     }
 }
 
-fn escaped(mark: u8, text: &[u8], out: &mut Page)
-    ensures { Adds out.old out.new (spec.escaped mark text.now) }
-{
+fn escaped(mark: u8, text: &[u8], out: &mut Page) {
     for b in text {
         octet(mark, *b, out);
     }
 }
 
 /// A text between two marks.
-pub fn quoted(mark: u8, text: &[u8], out: &mut Page)
-    ensures { Adds out.old out.new (spec.quoted mark text.now) }
-{
+pub fn quoted(mark: u8, text: &[u8], out: &mut Page) {
     put(&[b' ', mark], out);
     escaped(mark, text, out);
     put(&[mark], out)
 }
 
 /// A variable by its name, a parameter by its place.
-pub fn variable(context: Printing<'_>, v: Variable, out: &mut Page)
-    ensures { Adds out.old out.new (variable_text (variable_of (spec.names_in context.entry) v)) }
-{
+pub fn variable(context: Printing<'_>, v: Variable, out: &mut Page) {
     match v {
         Variable::Global(n) => match context.names.get(n as usize) {
             Some(name) => word(name.text.bytes(), out),
@@ -120,9 +88,7 @@ pub fn variable(context: Printing<'_>, v: Variable, out: &mut Page)
     }
 }
 
-pub fn variables(context: Printing<'_>, vs: &[Variable], out: &mut Page)
-    ensures { Adds out.old out.new (variables_text (map (variable_of (spec.names_in context.entry)) vs.now)) }
-{
+pub fn variables(context: Printing<'_>, vs: &[Variable], out: &mut Page) {
     for v in vs {
         variable(context, *v, out);
     }

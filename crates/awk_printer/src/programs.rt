@@ -1,12 +1,5 @@
 // Programs, a line each for the variables, a function, an action and a rule.
 
-ghost use Rattle.std.specs.Prelude.{◌≡◌, [], ◌∷◌, ◌++◌, ◌+◌, IfOk, codes, map};
-ghost use Rattle.std.specs.List.{flat_map};
-ghost use Rattle.awk_printer.specs.Pages.{Adds};
-ghost use Rattle.awk_printer.specs.Printed as spec;
-ghost use Rattle.awk_printer.specs.Words.{names_in, flag, form, declared_name};
-ghost use Rattle.awk_program.specs.View.{view_statement, view_function, view_rule, view_when, view_program};
-
 use crate::context::Printing;
 use crate::expressions::expression;
 use crate::page::Page;
@@ -20,56 +13,42 @@ use std::alloc::{AllocError, Global};
 /// How many variables awk itself has.
 const OWN: usize = 16;
 
-fn declared(name: &GlobalName, out: &mut Page)
-    ensures { Adds out.old out.new (declared_name name.now) }
-{
+fn declared(name: &GlobalName, out: &mut Page) {
     word(name.text.bytes(), out);
     if name.is_array {
         text("[]", out)
     }
 }
 
-fn all_declared(names: &[GlobalName], out: &mut Page)
-    ensures { Adds out.old out.new (flat_map declared_name names.now) }
-{
+fn all_declared(names: &[GlobalName], out: &mut Page) {
     for name in names {
         declared(name, out);
     }
 }
 
-fn variables(names: &[GlobalName], out: &mut Page)
-    ensures { Adds out.old out.new (spec.variables_line names.now) }
-{
+fn variables(names: &[GlobalName], out: &mut Page) {
     text("variables", out);
     all_declared(names.get(OWN..).unwrap_or(&[]), out);
     text("\n", out)
 }
 
-fn flagged(is_array: bool, out: &mut Page)
-    ensures { Adds out.old out.new (flag is_array) }
-{
+fn flagged(is_array: bool, out: &mut Page) {
     text(if is_array { " array" } else { " value" }, out)
 }
 
-fn all_flagged(flags: &[bool], out: &mut Page)
-    ensures { Adds out.old out.new (flat_map flag flags.now) }
-{
+fn all_flagged(flags: &[bool], out: &mut Page) {
     for is_array in flags {
         flagged(*is_array, out);
     }
 }
 
-fn parameters(flags: &[bool], out: &mut Page)
-    ensures { Adds out.old out.new (form (codes "parameters") (flat_map flag flags.now ∷ [])) }
-{
+fn parameters(flags: &[bool], out: &mut Page) {
     open("parameters", out);
     all_flagged(flags, out);
     close(out)
 }
 
-fn function(context: Printing<'_>, n: usize, f: &Function, out: &mut Page)
-    ensures { Adds out.old out.new (spec.function_line n (view_function (names_in context.entry) f.now)) }
-{
+fn function(context: Printing<'_>, n: usize, f: &Function, out: &mut Page) {
     text("function", out);
     ordinal(n, out);
     word(f.name.bytes(), out);
@@ -77,49 +56,35 @@ fn function(context: Printing<'_>, n: usize, f: &Function, out: &mut Page)
     action(context, f.body.as_slice(), out)
 }
 
-fn functions(context: Printing<'_>, fs: &[Function], out: &mut Page)
-    ensures { Adds out.old out.new (spec.functions_text 0 (map (view_function (names_in context.entry)) fs.now)) }
-{
+fn functions(context: Printing<'_>, fs: &[Function], out: &mut Page) {
     for (n, f) in fs.iter().enumerate() {
         function(context, n, f, out);
     }
 }
 
-fn begin(context: Printing<'_>, xs: &[Statement], out: &mut Page)
-    ensures { Adds out.old out.new (spec.begin_line (map (view_statement (names_in context.entry)) xs.now)) }
-{
+fn begin(context: Printing<'_>, xs: &[Statement], out: &mut Page) {
     text("BEGIN", out);
     action(context, xs, out)
 }
 
-fn begins(context: Printing<'_>, bodies: &[Items<Statement>], out: &mut Page)
-    ensures { Adds out.old out.new
-        (flat_map spec.begin_line (map (map (view_statement (names_in context.entry))) bodies.now)) }
-{
+fn begins(context: Printing<'_>, bodies: &[Items<Statement>], out: &mut Page) {
     for xs in bodies {
         begin(context, xs.as_slice(), out);
     }
 }
 
-fn end(context: Printing<'_>, xs: &[Statement], out: &mut Page)
-    ensures { Adds out.old out.new (spec.end_line (map (view_statement (names_in context.entry)) xs.now)) }
-{
+fn end(context: Printing<'_>, xs: &[Statement], out: &mut Page) {
     text("END", out);
     action(context, xs, out)
 }
 
-fn ends(context: Printing<'_>, bodies: &[Items<Statement>], out: &mut Page)
-    ensures { Adds out.old out.new
-        (flat_map spec.end_line (map (map (view_statement (names_in context.entry))) bodies.now)) }
-{
+fn ends(context: Printing<'_>, bodies: &[Items<Statement>], out: &mut Page) {
     for xs in bodies {
         end(context, xs.as_slice(), out);
     }
 }
 
-fn when(context: Printing<'_>, x: &When, out: &mut Page)
-    ensures { Adds out.old out.new (spec.when_text (view_when (names_in context.entry) x.now)) }
-{
+fn when(context: Printing<'_>, x: &When, out: &mut Page) {
     match x {
         When::Always => {
             open("always", out);
@@ -139,28 +104,21 @@ fn when(context: Printing<'_>, x: &When, out: &mut Page)
     }
 }
 
-fn rule(context: Printing<'_>, r: &Rule, out: &mut Page)
-    ensures { Adds out.old out.new (spec.rule_line (view_rule (names_in context.entry) r.now)) }
-{
+fn rule(context: Printing<'_>, r: &Rule, out: &mut Page) {
     text("rule", out);
     when(context, &r.when, out);
     action(context, r.action.as_slice(), out)
 }
 
-fn rules(context: Printing<'_>, rs: &[Rule], out: &mut Page)
-    ensures { Adds out.old out.new (flat_map spec.rule_line (map (view_rule (names_in context.entry)) rs.now)) }
-{
+fn rules(context: Printing<'_>, rs: &[Rule], out: &mut Page) {
     for r in rs {
         rule(context, r, out);
     }
 }
 
-/// The text of a program, which specs/Printed.antt defines, or `Memory` where memory is refused. More
-/// levels of nesting than a u32 counts would be refused so too; no memory has room for them.
-#[tactic(auto, unfolding(crate::specs::Printed::program_text))]
-pub fn printed(alloc: Global, program: &Program) -> Result<Vec<u8>, Memory>
-    ensures { IfOk result (λ text. text.items ≡ spec.program_text (view_program program.now)) }
-{
+/// The text of a program, or `Memory` where memory is refused. More levels of nesting than a u32 counts would be
+/// refused so too; no memory has room for them.
+pub fn printed(alloc: Global, program: &Program) -> Result<Vec<u8>, Memory> {
     let names = program.variables.as_slice();
     let context = Printing::of(names);
     let mut out = Page {

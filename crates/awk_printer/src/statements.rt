@@ -1,15 +1,5 @@
 // Statements. Each counts down a level of the context that its parts are printed in.
 
-ghost use Rattle.std.specs.Prelude.{[], ◌∷◌, ◌++◌, codes, map, option_map};
-ghost use Rattle.awk_printer.specs.Pages.{Adds};
-ghost use Rattle.awk_printer.specs.Printed.{variable_text, expression_text, perhaps_text, redirection_text};
-ghost use Rattle.awk_printer.specs.Printed.{statement_text, statements_text, action_text};
-ghost use Rattle.awk_printer.specs.Words as spec;
-ghost use Rattle.awk_printer.specs.Words.{names_in};
-ghost use Rattle.awk_program.specs.Program as p;
-ghost use Rattle.awk_program.specs.Program.{statements_of};
-ghost use Rattle.awk_program.specs.View.{variable_of, view, view_redirection, view_statement};
-
 use crate::context::Printing;
 use crate::expressions::{at_one, element, expression, list, of_variable, perhaps};
 use crate::page::{Page, cut};
@@ -18,9 +8,7 @@ use crate::words::redirect_text;
 use awk_program::{Expr, Jump, Redirection, Statement, Variable};
 use awk_text::place::Place;
 
-fn redirection(context: Printing<'_>, x: &Option<Redirection<Expr>>, out: &mut Page)
-    ensures { Adds out.old out.new (redirection_text (option_map (view_redirection (names_in context.entry)) x.now)) }
-{
+fn redirection(context: Printing<'_>, x: &Option<Redirection<Expr>>, out: &mut Page) {
     match x {
         None => (),
         Some(x) => at_one(context, redirect_text(x.how), x.place, &x.target, out),
@@ -33,11 +21,7 @@ fn print(
     xs: &[Expr],
     target: &Option<Redirection<Expr>>,
     out: &mut Page,
-)
-    ensures { Adds out.old out.new
-        (statement_text (p.print q (map (view (names_in context.entry)) xs.now)
-        (option_map (view_redirection (names_in context.entry)) target.now))) }
-{
+) {
     open_at("print", q, out);
     list(context, xs, out);
     redirection(context, target, out);
@@ -51,11 +35,7 @@ fn printf(
     xs: &[Expr],
     target: &Option<Redirection<Expr>>,
     out: &mut Page,
-)
-    ensures { Adds out.old out.new
-        (statement_text (p.printf q (view (names_in context.entry) x.now) (map (view (names_in context.entry)) xs.now)
-        (option_map (view_redirection (names_in context.entry)) target.now))) }
-{
+) {
     open_at("printf", q, out);
     expression(context, x, out);
     list(context, xs, out);
@@ -64,41 +44,31 @@ fn printf(
 }
 
 /// A word alone.
-fn bare(head: &str, out: &mut Page)
-    ensures { Adds out.old out.new (spec.form head.now []) }
-{
+fn bare(head: &str, out: &mut Page) {
     open(head, out);
     close(out)
 }
 
 /// A word alone, with its place.
-fn bare_at(head: &str, q: Place, out: &mut Page)
-    ensures { Adds out.old out.new (spec.form head.now (spec.placed q ∷ [])) }
-{
+fn bare_at(head: &str, q: Place, out: &mut Page) {
     open_at(head, q, out);
     close(out)
 }
 
-fn jump(which: Jump, out: &mut Page)
-    ensures { Adds out.old out.new (statement_text (p.jump which)) }
-{
+fn jump(which: Jump, out: &mut Page) {
     match which.place() {
         None => bare(which.word(), out),
         Some(q) => bare_at(which.word(), q, out),
     }
 }
 
-fn exit(context: Printing<'_>, q: Place, x: &Option<Expr>, out: &mut Page)
-    ensures { Adds out.old out.new (statement_text (p.exit q (option_map (view (names_in context.entry)) x.now))) }
-{
+fn exit(context: Printing<'_>, q: Place, x: &Option<Expr>, out: &mut Page) {
     open_at("exit", q, out);
     perhaps(context, x, out);
     close(out)
 }
 
-fn give(context: Printing<'_>, x: &Option<Expr>, out: &mut Page)
-    ensures { Adds out.old out.new (statement_text (p.return (option_map (view (names_in context.entry)) x.now))) }
-{
+fn give(context: Printing<'_>, x: &Option<Expr>, out: &mut Page) {
     open("return", out);
     perhaps(context, x, out);
     close(out)
@@ -111,13 +81,7 @@ fn header(
     y: &Option<Expr>,
     z: &Option<Expr>,
     out: &mut Page,
-)
-    ensures { Adds out.old out.new
-        (spec.opening (codes "for")
-        ++ (perhaps_text (option_map (view (names_in context.entry)) x.now)
-        ++ (perhaps_text (option_map (view (names_in context.entry)) y.now)
-        ++ perhaps_text (option_map (view (names_in context.entry)) z.now)))) }
-{
+) {
     open("for", out);
     perhaps(context, x, out);
     perhaps(context, y, out);
@@ -125,12 +89,7 @@ fn header(
 }
 
 /// `key in array`
-fn each_header(context: Printing<'_>, q: Place, key: Variable, array: Variable, out: &mut Page)
-    ensures { Adds out.old out.new
-        (spec.opening (codes "for-in")
-        ++ (spec.placed q ++ (variable_text (variable_of (names_in context.entry) key)
-        ++ variable_text (variable_of (names_in context.entry) array)))) }
-{
+fn each_header(context: Printing<'_>, q: Place, key: Variable, array: Variable, out: &mut Page) {
     open_at("for-in", q, out);
     variable(context, key, out);
     variable(context, array, out)
@@ -138,9 +97,7 @@ fn each_header(context: Printing<'_>, q: Place, key: Variable, array: Variable, 
 
 /// Prints a statement, or gives up where no level is left.
 #[cycle(statement)]
-fn statement(context: Printing<'_>, s: &Statement, out: &mut Page)
-    ensures { Adds out.old out.new (statement_text (view_statement (names_in context.entry) s.now)) }
-{
+fn statement(context: Printing<'_>, s: &Statement, out: &mut Page) {
     match context.below() {
         Some(below) => statement_of_parts(below, s, out),
         None => cut(out),
@@ -149,9 +106,7 @@ fn statement(context: Printing<'_>, s: &Statement, out: &mut Page)
 
 /// A statement, whose parts are printed in this context.
 #[cycle(statement)]
-fn statement_of_parts(context: Printing<'_>, s: &Statement, out: &mut Page)
-    ensures { Adds out.old out.new (statement_text (view_statement (names_in context.entry) s.now)) }
-{
+fn statement_of_parts(context: Printing<'_>, s: &Statement, out: &mut Page) {
     match s {
         Statement::Expr(x) => expression(context, x, out),
         Statement::Print(q, xs, target) => print(context, *q, xs.as_slice(), target, out),
@@ -176,10 +131,7 @@ fn statement_of_parts(context: Printing<'_>, s: &Statement, out: &mut Page)
 }
 
 #[cycle(statement)]
-fn block(context: Printing<'_>, xs: &[Statement], out: &mut Page)
-    ensures { Adds out.old out.new
-        (statement_text (p.block (statements_of (map (view_statement (names_in context.entry)) xs.now)))) }
-{
+fn block(context: Printing<'_>, xs: &[Statement], out: &mut Page) {
     open("block", out);
     statements(context, xs, out);
     close(out)
@@ -187,11 +139,7 @@ fn block(context: Printing<'_>, xs: &[Statement], out: &mut Page)
 
 /// A test and a statement.
 #[cycle(statement)]
-fn test(context: Printing<'_>, head: &str, x: &Expr, body: &Statement, out: &mut Page)
-    ensures { Adds out.old out.new
-        (spec.form head.now (expression_text (view (names_in context.entry) x.now)
-        ∷ statement_text (view_statement (names_in context.entry) body.now) ∷ [])) }
-{
+fn test(context: Printing<'_>, head: &str, x: &Expr, body: &Statement, out: &mut Page) {
     open(head, out);
     expression(context, x, out);
     statement(context, body, out);
@@ -199,11 +147,7 @@ fn test(context: Printing<'_>, head: &str, x: &Expr, body: &Statement, out: &mut
 }
 
 #[cycle(statement)]
-fn if_else(context: Printing<'_>, x: &Expr, body: &Statement, other: &Statement, out: &mut Page)
-    ensures { Adds out.old out.new
-        (statement_text (p.if_else (view (names_in context.entry) x.now)
-        (view_statement (names_in context.entry) body.now) (view_statement (names_in context.entry) other.now))) }
-{
+fn if_else(context: Printing<'_>, x: &Expr, body: &Statement, other: &Statement, out: &mut Page) {
     open("if", out);
     expression(context, x, out);
     statement(context, body, out);
@@ -212,11 +156,7 @@ fn if_else(context: Printing<'_>, x: &Expr, body: &Statement, other: &Statement,
 }
 
 #[cycle(statement)]
-fn do_while(context: Printing<'_>, body: &Statement, x: &Expr, out: &mut Page)
-    ensures { Adds out.old out.new
-        (statement_text (p.do_while (view_statement (names_in context.entry) body.now)
-        (view (names_in context.entry) x.now))) }
-{
+fn do_while(context: Printing<'_>, body: &Statement, x: &Expr, out: &mut Page) {
     open("do", out);
     statement(context, body, out);
     expression(context, x, out);
@@ -231,12 +171,7 @@ fn for_loop(
     z: &Option<Expr>,
     body: &Statement,
     out: &mut Page,
-)
-    ensures { Adds out.old out.new
-        (statement_text (p.for_loop (option_map (view (names_in context.entry)) x.now)
-        (option_map (view (names_in context.entry)) y.now) (option_map (view (names_in context.entry)) z.now)
-        (view_statement (names_in context.entry) body.now))) }
-{
+) {
     header(context, x, y, z, out);
     statement(context, body, out);
     close(out)
@@ -250,30 +185,21 @@ fn for_each(
     array: Variable,
     body: &Statement,
     out: &mut Page,
-)
-    ensures { Adds out.old out.new
-        (statement_text (p.for_each q (variable_of (names_in context.entry) key)
-        (variable_of (names_in context.entry) array) (view_statement (names_in context.entry) body.now))) }
-{
+) {
     each_header(context, q, key, array, out);
     statement(context, body, out);
     close(out)
 }
 
 #[cycle(statement)]
-fn statements(context: Printing<'_>, xs: &[Statement], out: &mut Page)
-    ensures { Adds out.old out.new
-        (statements_text (statements_of (map (view_statement (names_in context.entry)) xs.now))) }
-{
+fn statements(context: Printing<'_>, xs: &[Statement], out: &mut Page) {
     for s in xs {
         statement(context, s, out);
     }
 }
 
 /// Statements, to the end of their line.
-pub fn action(context: Printing<'_>, xs: &[Statement], out: &mut Page)
-    ensures { Adds out.old out.new (action_text (map (view_statement (names_in context.entry)) xs.now)) }
-{
+pub fn action(context: Printing<'_>, xs: &[Statement], out: &mut Page) {
     statements(context, xs, out);
     text("\n", out)
 }

@@ -1,13 +1,8 @@
 // How operators are written.
 
-ghost use Rattle.std.specs.Prelude.{◌≡◌};
-ghost use Rattle.awk_printer.specs.Words as spec;
-
 use awk_program::{Comparison, Extent, Operator, Redirect, Sign, Step, StepValue};
 
-pub fn operator_text(operator: Operator) -> &'static str
-    ensures { result.now ≡ spec.operator_text operator }
-{
+pub fn operator_text(operator: Operator) -> &'static str {
     match operator {
         Operator::Add => "+",
         Operator::Subtract => "-",
@@ -18,9 +13,7 @@ pub fn operator_text(operator: Operator) -> &'static str
     }
 }
 
-pub fn change_text(operator: Operator) -> &'static str
-    ensures { result.now ≡ spec.change_text operator }
-{
+pub fn change_text(operator: Operator) -> &'static str {
     match operator {
         Operator::Add => "+=",
         Operator::Subtract => "-=",
@@ -31,9 +24,7 @@ pub fn change_text(operator: Operator) -> &'static str
     }
 }
 
-pub fn step_text(step: Step, taken: StepValue) -> &'static str
-    ensures { result.now ≡ spec.step_text step taken }
-{
+pub fn step_text(step: Step, taken: StepValue) -> &'static str {
     match (step, taken) {
         (Step::Increment, StepValue::Before) => "post++",
         (Step::Increment, StepValue::Behind) => "pre++",
@@ -42,18 +33,14 @@ pub fn step_text(step: Step, taken: StepValue) -> &'static str
     }
 }
 
-pub fn sign_text(sign: Sign) -> &'static str
-    ensures { result.now ≡ spec.sign_text sign }
-{
+pub fn sign_text(sign: Sign) -> &'static str {
     match sign {
         Sign::Plus => "+",
         Sign::Minus => "-",
     }
 }
 
-pub fn comparison_text(comparison: Comparison) -> &'static str
-    ensures { result.now ≡ spec.comparison_text comparison }
-{
+pub fn comparison_text(comparison: Comparison) -> &'static str {
     match comparison {
         Comparison::Less => "<",
         Comparison::LessOrEqual => "<=",
@@ -64,18 +51,14 @@ pub fn comparison_text(comparison: Comparison) -> &'static str
     }
 }
 
-pub fn extent_text(extent: Extent) -> &'static str
-    ensures { result.now ≡ spec.extent_text extent }
-{
+pub fn extent_text(extent: Extent) -> &'static str {
     match extent {
         Extent::First => "sub",
         Extent::All => "gsub",
     }
 }
 
-pub fn redirect_text(redirect: Redirect) -> &'static str
-    ensures { result.now ≡ spec.redirect_text redirect }
-{
+pub fn redirect_text(redirect: Redirect) -> &'static str {
     match redirect {
         Redirect::Write => "to>",
         Redirect::Append => "to>>",

@@ -1,10 +1,4 @@
-use Rattle.std.proofs.Common.{◌+◌, ◌*◌, drop, map}
-use Rattle.awk_program.specs.Program.{terms_of, joins_of}
-use Rattle.awk_program.specs.View.{view, view_term, view_joined, view_pipes, view_arguments}
-use Rattle.awk_printer.specs.Printed.{list_text, terms_text, joins_text, pipes_text, arguments_text}
-use Rattle.awk_printer.specs.Words.{names_in}
-use Rattle.awk_printer.specs.Pages.{Adds}
-use Rattle.awk_printer.specs.declared.page.Page.{Page}
+use Rattle.std.proofs.Common.{◌+◌, ◌*◌}
 use Rattle.awk_printer.proofs.expressions.+expression.Given as goal
 
 abbrev pub decreases-expression : goal.decreases-expression
@@ -99,28 +93,3 @@ decreases-call l = 5 + 16 * l.context.level
 
 abbrev pub decreases-pipe : goal.decreases-pipe
 decreases-pipe l = 6 + 16 * l.context.level
-
-abbrev pub invariant-list-loop-x : goal.invariant-list-loop-x
-invariant-list-loop-x l = (end : Page)
-    → Adds l.out end (list_text (map (view (names_in l.context)) (drop l.x-index l.xs)))
-    → Adds l.initial.out end (list_text (map (view (names_in l.context)) l.xs))
-
-abbrev pub invariant-terms-loop-x : goal.invariant-terms-loop-x
-invariant-terms-loop-x l = (end : Page)
-    → Adds l.out end (terms_text (terms_of (map (view_term (names_in l.context)) (drop l.x-index l.xs))))
-    → Adds l.initial.out end (terms_text (terms_of (map (view_term (names_in l.context)) l.xs)))
-
-abbrev pub invariant-joins-loop-x : goal.invariant-joins-loop-x
-invariant-joins-loop-x l = (end : Page)
-    → Adds l.out end (joins_text (joins_of (map (view_joined (names_in l.context)) (drop l.x-index l.xs))))
-    → Adds l.initial.out end (joins_text (joins_of (map (view_joined (names_in l.context)) l.xs)))
-
-abbrev pub invariant-pipes-loop-x : goal.invariant-pipes-loop-x
-invariant-pipes-loop-x l = (end : Page)
-    → Adds l.out end (pipes_text (view_pipes (names_in l.context) (drop l.x-index l.xs)))
-    → Adds l.initial.out end (pipes_text (view_pipes (names_in l.context) l.xs))
-
-abbrev pub invariant-arguments-loop-x : goal.invariant-arguments-loop-x
-invariant-arguments-loop-x l = (end : Page)
-    → Adds l.out end (arguments_text (view_arguments (names_in l.context) (drop l.x-index l.xs)))
-    → Adds l.initial.out end (arguments_text (view_arguments (names_in l.context) l.xs))

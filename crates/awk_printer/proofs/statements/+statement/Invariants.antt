@@ -1,10 +1,4 @@
-use Rattle.std.proofs.Common.{◌+◌, ◌*◌, drop, map}
-use Rattle.awk_program.specs.Program.{statements_of}
-use Rattle.awk_program.specs.View.{view_statement}
-use Rattle.awk_printer.specs.Printed.{statements_text}
-use Rattle.awk_printer.specs.Words.{names_in}
-use Rattle.awk_printer.specs.Pages.{Adds}
-use Rattle.awk_printer.specs.declared.page.Page.{Page}
+use Rattle.std.proofs.Common.{◌+◌, ◌*◌}
 use Rattle.awk_printer.proofs.statements.+statement.Given as goal
 
 abbrev pub decreases-statement : goal.decreases-statement
@@ -33,8 +27,3 @@ decreases-statements l = 1 + 16 * l.context.level
 
 abbrev pub decreases-block : goal.decreases-block
 decreases-block l = 2 + 16 * l.context.level
-
-abbrev pub invariant-statements-loop-s : goal.invariant-statements-loop-s
-invariant-statements-loop-s l = (end : Page)
-    → Adds l.out end (statements_text (statements_of (map (view_statement (names_in l.context)) (drop l.s-index l.xs))))
-    → Adds l.initial.out end (statements_text (statements_of (map (view_statement (names_in l.context)) l.xs)))
