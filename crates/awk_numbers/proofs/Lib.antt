@@ -7,3 +7,4 @@ pub mod Canonical
 pub mod Patterns
 pub mod Closest
 pub mod Samples
+pub mod Remainders

@@ -8,3 +8,4 @@ pub mod laws;
 pub mod number;
 pub mod numeral;
 pub mod operators;
+pub mod remainder;
