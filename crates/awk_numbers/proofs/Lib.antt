@@ -8,3 +8,5 @@ pub mod Patterns
 pub mod Closest
 pub mod Samples
 pub mod Remainders
+pub mod Figures
+pub mod Sizes

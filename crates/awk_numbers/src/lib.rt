@@ -1,6 +1,7 @@
 //! Numbers of scripts in two profiles: whole numbers of 64 bits, and IEEE doubles.
 #![tactic(auto)]
 
+pub mod decimal;
 pub mod doubles;
 pub mod fixed;
 pub mod functions;
