@@ -232,7 +232,7 @@ above_zero xs i count h ne =
 pub zeros_more : (xs : List ℕ) (i : ℕ) → below xs i ≡ 0 → get_or xs i 0 ≡ 0 → below xs (i + 1) ≡ 0
 zeros_more xs i h e = below-suc xs i ∙ (λ j. h j + e j * 10 ^ i) ∙ omega arith
 
-below-lt : (xs : List ℕ) (n : ℕ) → AllFigures xs → below xs n < 10 ^ n
+pub below-lt : (xs : List ℕ) (n : ℕ) → AllFigures xs → below xs n < 10 ^ n
 unfolding below
 below-lt xs zero h = omega arith
 below-lt xs (suc n) h =

@@ -10,3 +10,4 @@ pub mod Samples
 pub mod Remainders
 pub mod Figures
 pub mod Sizes
+pub mod Significant

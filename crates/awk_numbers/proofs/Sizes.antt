@@ -59,7 +59,7 @@ large_size (fin s m d) n k v h e f =
     ∙ ap (λ (t : ℕ). t * down d) (sym f)
 
 -- ---- rounded
-closest_whole : (q : ℕ) → closest q 1 ≡ q
+pub closest_whole : (q : ℕ) → closest q 1 ≡ q
 closest_whole q = rw (div-one q, mod-one q) refl
 
 pub padded_size : (x : Float) (n s p : ℕ) → IsSize x n s → s ≤ p → rounded x p ≡ n * 10 ^ (p - s)
@@ -153,7 +153,7 @@ raised_some digits t new n z e h w are = go n (by_digits digits t n e are)
     go (suc n) s = w ∙ ap (λ (k : List ℕ). k ++ replicate z 48) s ∙ sym (with_zeros (suc n) z (omega arith))
 
 -- ---- what is no number has the texts of 0
-zero_closest : (p : ℕ) → closest (0 * 10 ^ p) 1 ≡ 0
+pub zero_closest : (p : ℕ) → closest (0 * 10 ^ p) 1 ≡ 0
 zero_closest p = let z : 0 * 10 ^ p ≡ 0 = omega arith in ap (λ (k : ℕ). closest k 1) z
 
 pub no_size : (x : Float) (p : ℕ) → float_is_finite x ≡ false → rounded (of_bits binary64 0) p ≡ rounded x p

@@ -5,4 +5,5 @@ pub mod Numerals
 pub mod Digits
 pub mod Figures
 pub mod Decimal
+pub mod Exponents
 pub mod Functions

@@ -195,7 +195,7 @@ pub(crate) fn cut_text(alloc: Global, digits: &[u8], count: usize) -> Result<Vec
 }
 
 /// Adds zeros.
-fn push_zeros(text: &mut Vec<u8>, count: u32) -> Result<(), AllocError>
+fn push_zeros(text: &mut Vec<u8>, count: usize) -> Result<(), AllocError>
     ensures { OnOk result (text.new.items ≡ text.old.items ++ replicate count 48) }
 {
     'zeros: for _turn in 0..count {
@@ -205,7 +205,7 @@ fn push_zeros(text: &mut Vec<u8>, count: u32) -> Result<(), AllocError>
 }
 
 /// The text of the number times a power of ten.
-pub(crate) fn raised_text(alloc: Global, digits: &[u8], power: u32) -> Result<Vec<u8>, AllocError>
+pub(crate) fn raised_text(alloc: Global, digits: &[u8], power: usize) -> Result<Vec<u8>, AllocError>
     requires { AllFigures digits.now }
     ensures { IfOk result (λ text. (n : ℕ) → AreFigures digits.now n
         → text.items ≡ map (λ d. 48 + d) (digits_of 10 (n * 10 ^ power))) }
@@ -215,5 +215,25 @@ pub(crate) fn raised_text(alloc: Global, digits: &[u8], power: u32) -> Result<Ve
         return Ok(text);
     }
     push_zeros(&mut text, power)?;
+    Ok(text)
+}
+
+/// The text of so many digits of the number, to the nearest, a tie to the even digit: one more where it is rounded up to
+/// a power of ten.
+pub(crate) fn significant_text(
+    alloc: Global,
+    digits: &[u8],
+    count: usize,
+) -> Result<Vec<u8>, AllocError>
+    requires { AllFigures digits.now }
+    ensures { IfOk result (λ text. (n : ℕ) → AreFigures digits.now n
+        → text.items ≡ map (λ d. 48 + d) (digits_of 10 (closest (n * 10 ^ count) (10 ^ length digits.now)))) }
+{
+    let length = digits.len();
+    if count < length {
+        let text = cut_text(alloc, digits, length - count)?;
+        return Ok(text);
+    }
+    let text = raised_text(alloc, digits, count - length)?;
     Ok(text)
 }

@@ -84,7 +84,7 @@ pub fn rounded(x: f64, places: u32) -> Option<u128>
 }
 
 /// The digits with a point before the last ones.
-fn pointed(alloc: Global, digits: &[u8], places: usize) -> Result<Vec<u8>, AllocError>
+pub(crate) fn pointed(alloc: Global, digits: &[u8], places: usize) -> Result<Vec<u8>, AllocError>
     requires { places ≤ length digits.now }
     ensures { IfOk result (λ text. text.items ≡ pointed places digits.now) }
 {
@@ -99,7 +99,7 @@ fn pointed(alloc: Global, digits: &[u8], places: usize) -> Result<Vec<u8>, Alloc
 }
 
 /// The digits of a number, none for 0.
-fn near_digits(alloc: Global, number: u128) -> Result<Vec<u8>, AllocError>
+pub(crate) fn near_digits(alloc: Global, number: u128) -> Result<Vec<u8>, AllocError>
     ensures { IfOk result (λ text. text.items ≡ map (λ d. 48 + d) (digits_of 10 number)) }
 {
     if number == 0 {
@@ -121,7 +121,7 @@ fn far_digits(alloc: Global, x: f64, places: u32) -> Result<Vec<u8>, AllocError>
         let text = cut_text(alloc, &digits, (all_places - places) as usize)?;
         return Ok(text);
     }
-    let text = raised_text(alloc, &digits, places - all_places)?;
+    let text = raised_text(alloc, &digits, (places - all_places) as usize)?;
     Ok(text)
 }
 
@@ -140,7 +140,7 @@ fn digits_at(alloc: Global, x: f64, places: u32) -> Result<Vec<u8>, AllocError>
 }
 
 /// The digits with zeros before them where they are fewer.
-fn padded(alloc: Global, own: &[u8], least: usize) -> Result<Vec<u8>, AllocError>
+pub(crate) fn padded(alloc: Global, own: &[u8], least: usize) -> Result<Vec<u8>, AllocError>
     ensures { IfOk result (λ all. all.items ≡ replicate (least - length own.now) 48 ++ own.now) }
 {
     let mut all = Vec::new(alloc);
@@ -170,7 +170,7 @@ fn size_text(alloc: Global, x: f64, places: u32) -> Result<Vec<u8>, AllocError>
     }
 }
 
-fn is_negative(x: f64) -> bool
+pub(crate) fn is_negative(x: f64) -> bool
     ensures { result ≡ is_sign_negative x }
 {
     if x.is_nan() {

@@ -3,6 +3,7 @@
 
 pub mod decimal;
 pub mod doubles;
+pub mod exponents;
 pub mod fixed;
 pub mod functions;
 pub mod laws;

@@ -1,6 +1,6 @@
-// Numbers by `%.Nf`.
+// Numbers by `%.Nf` and `%.Ne`.
 use awk_numbers::number::Number;
-use awk_numbers::{fixed, numeral};
+use awk_numbers::{exponents, fixed, numeral};
 
 const ROWS: [(&[u8], u32, &[u8]); 54] = [
     (b"0.125", 2, b"0.12"),
@@ -182,6 +182,51 @@ fn long_texts(rt: HostRuntime) -> Result<(), std::alloc::AllocError> {
         assert!(rt; made.len() == *length, "length {i}");
         assert!(rt; made.as_slice().starts_with(first), "first {i}");
         assert!(rt; made.as_slice().ends_with(last), "last {i}");
+    }
+    Ok(())
+}
+
+const EXPONENTS: [(&[u8], u32, &[u8]); 33] = [
+    (b"0", 0, b"0e+00"),
+    (b"0", 3, b"0.000e+00"),
+    (b"1", 0, b"1e+00"),
+    (b"1", 2, b"1.00e+00"),
+    (b"-1", 2, b"-1.00e+00"),
+    (b"9.5", 0, b"1e+01"),
+    (b"8.5", 0, b"8e+00"),
+    (b"99.5", 1, b"1.0e+02"),
+    (b"99.95", 2, b"1.00e+02"),
+    (b"999999.5", 5, b"1.00000e+06"),
+    (b"0.1", 1, b"1.0e-01"),
+    (b"0.1", 20, b"1.00000000000000005551e-01"),
+    (b"123456789", 3, b"1.235e+08"),
+    (b"123456789", 8, b"1.23456789e+08"),
+    (b"123456789", 12, b"1.234567890000e+08"),
+    (b"1e100", 6, b"1.000000e+100"),
+    (b"1e-100", 6, b"1.000000e-100"),
+    (b"5e-324", 0, b"5e-324"),
+    (b"5e-324", 10, b"4.9406564584e-324"),
+    (b"1.7976931348623157e308", 16, b"1.7976931348623157e+308"),
+    (b"2.2250738585072014e-308", 16, b"2.2250738585072014e-308"),
+    (b"-2.5e-7", 0, b"-2e-07"),
+    (b"-3.5e-7", 0, b"-3e-07"),
+    (b"1e22", 22, b"1.0000000000000000000000e+22"),
+    (b"0.00012345", 4, b"1.2345e-04"),
+    (b"9007199254740993", 15, b"9.007199254740992e+15"),
+    (b"1e15", 0, b"1e+15"),
+    (b"9.9999e-5", 3, b"1.000e-04"),
+    (b"6.02214076e23", 8, b"6.02214076e+23"),
+    (b"1e-5", 5, b"1.00000e-05"),
+    (b"1e9", 0, b"1e+09"),
+    (b"1e10", 0, b"1e+10"),
+    (b"5e-100", 0, b"5e-100"),
+];
+
+#[test]
+fn significant_digits(rt: HostRuntime) -> Result<(), std::alloc::AllocError> {
+    for (i, (text, places, want)) in EXPONENTS.iter().enumerate() {
+        let made = exponents::exponential(rt.alloc(), operand(text), *places, b'e')?;
+        assert_eq!(rt; made.as_slice(), *want, "row {i}");
     }
     Ok(())
 }
