@@ -1,5 +1,5 @@
 -- What the operators give are numbers of the profile, and equal numbers are one value.
-use Rattle.std.proofs.Common.{ℕ, zero, suc, ◌≡◌, ◌*◌, ◌/◌, ◌%◌, ◌^◌, ◌≤◌, ◌==◌, Bool, true, false, cond, T, not, ◌&&◌}
+use Rattle.std.proofs.Common.{ℕ, zero, suc, ◌≡◌, ◌*◌, ◌/◌, ◌%◌, ◌^◌, ◌≤◌, ◌==◌, Bool, true, false, cond, T}
 use Rattle.std.proofs.Common.{ℤ, pos, negsuc, ◌+ℤ◌, ◌-ℤ◌, ◌*ℤ◌, neg_ℤ, unsigned_abs, int_div, int_rem, nat_abs, Result}
 use Rattle.std.proofs.Common.{Ok, Err, is_ok, refl, sym, ap, subst, ◌∙◌, arith, true≢false, div-add-mod', Less, Equal}
 use Rattle.std.proofs.Common.{Greater, is_eq}
@@ -11,7 +11,7 @@ use Rattle.std.specs.Ordering.{int_cmp}
 use Rattle.std.specs.Float.{Float, binary64, nan, inf, fin}
 use Rattle.std.specs.Float.Cmp.{same_key}
 use lib.Dec.{not_T}
-use lib.Ieee.{up, down, fits, of_int, of_bits, to_bits, top, lt, eq, is_nan, add, sub, mul, div, rem, neg}
+use lib.Ieee.{up, down, fits, of_int, of_bits, to_bits, top, lt, eq, is_nan}
 use lib.Ieee.Bits.{of_bits-to_bits, is_false}
 use lib.Ieee.Fits.{add-fits, sub-fits, mul-fits, div-fits, rem-fits, neg-fits, of_int-fits, down_pos}
 use Rattle.awk_numbers.specs.declared.number.Number.{Number}

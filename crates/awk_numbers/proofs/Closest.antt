@@ -10,8 +10,13 @@ use native.Mathlib.Nat.{eq_of_mul-eq-mul_right, div-one, mod-one, mul-le-mul}
 use lib.Pow.{pow_pos, pow_mono, pow-add}
 use Rattle.std.proofs.Common.{Fits, w64}
 use Rattle.std.proofs.Math.Nat.{pow-le-pow_right}
-use Rattle.std.specs.Prelude.{false, length, replicate, ◌++◌}
-use Rattle.std.specs.Fmt.{decimal}
+use Rattle.std.specs.Prelude.{false, length, map, replicate, ◌++◌}
+use Rattle.std.specs.Int.Digits.{digits_of}
+use Rattle.std.proofs.lemmas.List.{length-append, length-map, length-replicate}
+use Rattle.std.specs.Float.{binary64, is_sign_negative}
+use lib.Ieee.{of_bits, is_nan}
+use Rattle.std.proofs.Common.{subst, T, true, true≢false}
+use Rattle.awk_numbers.proofs.Sizes.{no_size}
 use Rattle.std.specs.Float.{float_is_finite}
 use Rattle.awk_numbers.specs.Decimal.{fixed, padded, pointed}
 use Rattle.awk_numbers.specs.Digits.{Splits, rounded, IsLarge}
@@ -82,10 +87,31 @@ shifted_small n s h k =
     (omega arith) most in
     omega (arith, both)
 
-pub as_fixed : (x : Float) (p n : ℕ) → n ≡ rounded x p
-    → pointed p (replicate (p + 1 - length (decimal n)) 48 ++ decimal n) ≡ fixed x p
+pub as_fixed : (x : Float) (p : ℕ) (own : List ℕ) → own ≡ map (λ d. 48 + d) (digits_of 10 (rounded x p))
+    → pointed p (replicate (p + 1 - length own) 48 ++ own) ≡ fixed x p
 unfolding fixed
-as_fixed x p n e = ap (λ (k : ℕ). pointed p (padded (p + 1) k)) e
+as_fixed x p own e =
+    let ds = digits_of 10 (rounded x p) in
+    ap (pointed p) ((λ i. replicate (p + 1 - length (e i)) 48 ++ e i)
+    ∙ ap (λ (l : ℕ). replicate (p + 1 - l) 48 ++ map (λ d. 48 + d) ds) (length-map ds (λ d. 48 + d)))
+
+pub no_fixed : (x : Float) (p : ℕ) → float_is_finite x ≡ false → fixed (of_bits binary64 0) p ≡ fixed x p
+unfolding fixed
+no_fixed x p h = ap (λ (n : ℕ). pointed p (padded (p + 1) n)) (no_size x p h)
+
+pub long_enough : (xs own : List ℕ) (least : ℕ) → xs ≡ replicate (least - length own) 48 ++ own → least ≤ length xs
+long_enough xs own least e =
+    subst (λ (t : List ℕ). least ≤ length t) (sym e) (simp (length-append, length-replicate) (omega arith))
+
+pub zero_finite : T (float_is_finite (of_bits binary64 0))
+unfolding of_bits float_is_finite
+zero_finite = tt
+
+pub nan_sign : (x : Float) → is_nan x ≡ true → false ≡ is_sign_negative x
+unfolding is_nan is_sign_negative
+nan_sign nan h = refl
+nan_sign (inf s) h = absurd (true≢false (sym h))
+nan_sign (fin s m e) h = absurd (true≢false (sym h))
 
 pub zeros_of : (old : List ℕ) (n l : ℕ) → old ≡ [] → l ≡ 0 → take n old ++ replicate (n - l) 48 ≡ replicate n 48
 zeros_of old n l e z = rw (e, z) (search rules)
@@ -106,9 +132,3 @@ pub large : (x : Float) (d k : ℕ) → Splits x (d * 2 ^ k) → (0 < k → 2 ^ 
 large nan d k v h p = absurd v
 large (inf s) d k v h p = absurd v
 large (fin s m e) d k v h p = beyond (m * up e) d k (down e) v (h (omega (arith, p))) (omega (arith, p))
-
-pub infinite_large : (x : Float) → float_is_finite x ≡ false → IsLarge x
-unfolding float_is_finite
-infinite_large nan h = tt
-infinite_large (inf s) h = tt
-infinite_large (fin s m e) h = absurd (Rattle.std.proofs.Common.true≢false h)

@@ -1,10 +1,10 @@
 -- For whole numbers of a size up to 2 ^ 53, the doubles' operators give what the whole numbers' do.
-use Rattle.std.proofs.Common.{ℕ, zero, suc, ◌≡◌, ◌+◌, ◌*◌, ◌/◌, ◌%◌, ◌^◌, ◌<◌, ◌≤◌, Bool, true, false, not}
+use Rattle.std.proofs.Common.{ℕ, zero, suc, ◌≡◌, ◌+◌, ◌*◌, ◌/◌, ◌%◌, ◌^◌, ◌<◌, ◌≤◌, Bool, true, false}
 use Rattle.std.proofs.Common.{ℤ, pos, negsuc, ◌+ℤ◌, ◌-ℤ◌, ◌*ℤ◌, neg_ℤ, unsigned_abs, int_div, int_rem, Ok, Err, Result}
 use Rattle.std.proofs.Common.{is_ok, refl, sym, ap, subst, ◌∙◌, arith, div-add-mod', true≢false}
 use Rattle.std.proofs.lemmas.Int.{ints}
 use Rattle.std.specs.Bool.{if◌then◌else◌}
-use Rattle.std.specs.Float.{Float, binary64}
+use Rattle.std.specs.Float.{binary64}
 use lib.Ieee.{add, sub, mul, div, rem, neg, of_int}
 use lib.Ieee.Exact.{HasValue}
 use lib.Ieee.Back.{round_whole}
@@ -12,7 +12,7 @@ use Rattle.awk_numbers.specs.declared.number.Number.{Number}
 use Rattle.awk_numbers.specs.declared.number.Number.TheVariants.{Whole, Real}
 use Rattle.awk_numbers.specs.declared.number.NumberFault.{NumberFault}
 use Rattle.awk_numbers.specs.declared.number.NumberFault.TheVariants.{OutOfRange}
-use Rattle.awk_numbers.specs.Numbers.{signed, settled}
+use Rattle.awk_numbers.specs.Numbers.{settled}
 use Rattle.awk_numbers.specs.Operators.{ranged, is_in_range, is_int_zero}
 use Rattle.awk_numbers.proofs.Wholes.{settled_whole, add_whole, neg_value, mul_whole, div_whole, rem_whole}
 

@@ -7,3 +7,7 @@ pub mod Canonical
 pub mod Patterns
 pub mod Closest
 pub mod Samples
+pub mod Remainders
+pub mod Figures
+pub mod Sizes
+pub mod Significant

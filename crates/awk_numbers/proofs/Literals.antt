@@ -1,6 +1,6 @@
 -- The literals of the code.
 use Rattle.std.specs.Prelude.{◌≡◌, refl}
-use Rattle.std.specs.Float.{binary64, float_zero, two_to, minus_two_to}
+use Rattle.std.specs.Float.{binary64, two_to, minus_two_to}
 use lib.Ieee.{of_bits}
 
 pub lowest_is : of_bits binary64 0xc340_0000_0000_0000 ≡ minus_two_to 53

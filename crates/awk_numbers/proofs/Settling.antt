@@ -1,12 +1,12 @@
 -- When a double is a whole number up to 2 ^ 53, by comparisons and casts.
-use Rattle.std.proofs.Common.{ℕ, zero, suc, ◌≡◌, ◌+◌, ◌*◌, ◌/◌, ◌%◌, ◌^◌, ◌<◌, ◌≤◌, Bool, true, false, not, cond, ◌&&◌}
+use Rattle.std.proofs.Common.{ℕ, zero, suc, ◌≡◌, ◌*◌, ◌/◌, ◌%◌, ◌^◌, ◌<◌, ◌≤◌, Bool, true, false, not, ◌&&◌}
 use Rattle.std.proofs.Common.{◌||◌, ◌==◌, T, ltb, eqb, w64, ◌⊎◌, inl, inr}
-use Rattle.std.proofs.Common.{ℤ, pos, negsuc, neg_ℤ, unsigned_abs, nat_le, Ok, Err, refl, sym, ap, subst, ◌∙◌, arith}
+use Rattle.std.proofs.Common.{ℤ, pos, neg_ℤ, nat_le, Ok, Err, refl, sym, ap, subst, ◌∙◌, arith}
 use Rattle.std.proofs.Common.{div-add-mod', lt→ltb, ltb→lt, eqb→eq, true≢false}
 use Rattle.std.proofs.lemmas.Float.{le_trans, lt_of_le_of_lt, lt_of_not-le}
 use Rattle.std.specs.Float.{Float, binary64, nan, inf, fin, two_to, minus_two_to, ◌≤ᶠ◌, ◌<ᶠ◌, float_is_finite}
 use Rattle.std.specs.Float.{float_to_signed}
-use lib.Dec.{eqb_refl, le→leb}
+use lib.Dec.{le→leb}
 use lib.Ieee.{le, lt, eq, up, down, to_signed, of_int, in_float, level, is_nan}
 use lib.Ieee.Exact.{HasValue}
 use lib.Ieee.Fits.{down_pos, and_l, and_r, and_i, eq→eqb}

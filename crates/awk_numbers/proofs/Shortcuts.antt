@@ -1,22 +1,25 @@
 -- The short ways of the operators, as the code takes them: a number of 64 bits is read back from its bits.
-use Rattle.std.proofs.Common.{◌≡◌, ◌^◌, ◌<◌, ◌≤◌, ℤ, pos, ◌+ℤ◌, ◌-ℤ◌, ◌*ℤ◌, neg_ℤ, unsigned_abs, Ok, SFits, w64, to_z}
+use Rattle.std.proofs.Common.{◌≡◌, ◌^◌, ◌≤◌, ℤ, pos, ◌+ℤ◌, ◌-ℤ◌, ◌*ℤ◌, neg_ℤ, unsigned_abs, Ok, SFits, w64, to_z}
 use Rattle.std.proofs.Common.{of_z}
-use Rattle.std.proofs.Common.{refl, sym, ap, subst, ◌∙◌, arith}
+use Rattle.std.proofs.Common.{sym, ap, subst, ◌∙◌, arith}
 use Rattle.std.proofs.lemmas.Int.{ints, fits_signed_from_abs, to_z-of_z}
 use lib.Ieee.{binary64, add, sub, mul, neg}
 use Rattle.awk_numbers.specs.declared.number.Number.{Number}
-use Rattle.awk_numbers.specs.declared.number.Number.TheVariants.{Whole, Real}
+use Rattle.awk_numbers.specs.declared.number.Number.TheVariants.{Whole}
 use Rattle.awk_numbers.specs.Numbers.{double_of, settled}
 use Rattle.awk_numbers.proofs.Exact.{add_exact, sub_exact, mul_exact, neg_exact}
 
-abbrev IsSmall : ℤ → Type 0
+abbrev pub IsSmall : ℤ → Type 0
 IsSmall z = unsigned_abs z ≤ 2 ^ 53
 
-abbrev held : ℤ → ℤ
+abbrev pub held : ℤ → ℤ
 held z = to_z w64 (of_z w64 z)
 
 fits : (z : ℤ) → IsSmall z → SFits w64 z
 fits z h = fits_signed_from_abs w64 z (omega (arith, h))
+
+pub held_is : (z : ℤ) → IsSmall z → held z ≡ z
+held_is z h = to_z-of_z w64 z (fits z h)
 
 -- what a checked operation gives
 pub checked : (f : ℤ → ℤ → ℤ) (m n z : ℤ) → IsSmall m → IsSmall n → SFits w64 (f (held m) (held n))

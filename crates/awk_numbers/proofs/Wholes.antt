@@ -1,20 +1,20 @@
 -- What the operators give of doubles that have the value of whole numbers.
 use Rattle.std.proofs.Common.{ℕ, zero, suc, ◌≡◌, ◌+◌, ◌-◌, ◌*◌, ◌/◌, ◌%◌, ◌^◌, ◌<◌, ◌≤◌, ◌⊎◌, inl, inr, Bool, true}
 use Rattle.std.proofs.Common.{false, not, cond, ◌&&◌}
-use Rattle.std.proofs.Common.{ℤ, pos, negsuc, ◌+ℤ◌, neg_ℤ, ltb, eqb, Ok, refl, sym, ap, subst, ◌∙◌, arith}
+use Rattle.std.proofs.Common.{ℤ, ◌+ℤ◌, ltb, eqb, Ok, refl, sym, ap, subst, ◌∙◌, arith}
 use Rattle.std.proofs.Common.{mul-lt-mul_of_pos_right, div-add-mod', mod-lt}
 use Rattle.std.proofs.Common.{mul-pos}
 use Rattle.std.proofs.lemmas.Nat.{mod-mul-add}
 use Rattle.std.proofs.lemmas.Int.{ints}
 use Rattle.std.proofs.lemmas.Bool.{lt-ltb, le-ltb, le-leb, ne_eqb}
 use Rattle.std.specs.Float.{Float, binary64, nan, inf, fin}
-use lib.Ieee.{up, down, round, sum, add, sub, mul, div, rem, neg, unlike, of_int}
+use lib.Ieee.{up, down, round, sum, add, mul, div, rem, neg, unlike}
 use lib.Ieee.Exact.{HasValue}
 use lib.Ieee.Back.{round_whole}
 use lib.Ieee.Scale.{round_same}
 use lib.Ieee.Fits.{down_pos}
 use native.Mathlib.Nat.{mul-div_cancel, mul-mod_left}
-use Rattle.awk_numbers.specs.declared.number.Number.TheVariants.{Whole, Real}
+use Rattle.awk_numbers.specs.declared.number.Number.TheVariants.{Whole}
 use Rattle.awk_numbers.specs.Numbers.{signed, is_counted, settled}
 
 -- ---- which double settles to a whole number

@@ -1,5 +1,5 @@
 -- The digits of a double.
-use Rattle.std.specs.Prelude.{ℕ, ◌≡◌, ◌*◌, ◌^◌, ◌≤◌, ⊤}
+use Rattle.std.specs.Prelude.{ℕ, ◌≡◌, ◌*◌, ◌/◌, ◌^◌, ◌≤◌, ⊤}
 use Rattle.std.specs.Float.{Float, nan, inf, fin}
 use lib.Ieee.{up, down}
 use lib.Ieee.Nearest.{closest}
@@ -21,3 +21,9 @@ abbrev pub IsLarge : Float → Type 0
 IsLarge nan = ⊤
 IsLarge (inf s) = ⊤
 IsLarge (fin s m e) = 2 ^ 63 * down e ≤ m * up e
+
+-- how many units of 10 ^ -1074 the size is: each double is a whole number of them
+unfoldable pub units_of : Float → ℕ
+units_of nan = 0
+units_of (inf s) = 0
+units_of (fin s m e) = m * up e * 10 ^ 1074 / down e

@@ -3,5 +3,7 @@ pub mod Operators
 pub mod Laws
 pub mod Numerals
 pub mod Digits
+pub mod Figures
 pub mod Decimal
+pub mod Exponents
 pub mod Functions

@@ -1,7 +1,7 @@
 -- The operators. POSIX.1-2017, XCU awk, "Expressions in awk", has them on the numbers of ISO C's `double`; IEEE 754
 -- says what these give: the exact result, rounded once, to the nearest, a tie to the even one. In profile whole a
 -- result is exact or F1, and a quotient is truncated.
-use Rattle.std.specs.Prelude.{ℕ, suc, ◌^◌, Bool, true, false, not, ◌&&◌, ◌==◌, nat_lt, ℤ, pos, negsuc, ◌+ℤ◌, ◌-ℤ◌, ◌*ℤ◌}
+use Rattle.std.specs.Prelude.{◌^◌, Bool, false, not, ◌&&◌, ◌==◌, nat_lt, ℤ, pos, negsuc, ◌+ℤ◌, ◌-ℤ◌, ◌*ℤ◌}
 use Rattle.std.specs.Prelude.{neg_ℤ, int_div, int_rem, Result, Ok, Err, if◌then◌else◌, cond}
 use Rattle.std.specs.Ordering.{int_cmp}
 use Rattle.std.specs.declared.cmp.Ordering.{Ordering}

@@ -1,10 +1,12 @@
 // The operators of profile double: IEEE's, with a short way where all is whole and small.
 ghost use Rattle.std.specs.Prelude.{◌≡◌, ◌≤◌, ◌^◌, IfSome, unsigned_abs};
-ghost use Rattle.awk_numbers.specs.Operators.{add, sub, mul, div, neg, is_zero};
+ghost use Rattle.awk_numbers.specs.Operators.{add, sub, mul, div, rem, neg, is_zero};
 ghost use Rattle.awk_numbers.specs.declared.number.Numbers.TheVariants.{Double};
 ghost use Rattle.awk_numbers.specs.declared.number.Number.TheVariants.{Whole};
 
 use crate::number::{Number, NumberFault, is_exact, settle};
+use crate::operators::whole_rem;
+use crate::remainder::remainder;
 
 /// Both numbers, where each is whole and of a size up to 2^53.
 #[inline(always)]
@@ -88,6 +90,22 @@ pub fn div(x: Number, y: Number) -> Result<Number, NumberFault>
         return Err(NumberFault::ZeroDivisor);
     }
     settle(x.to_double() / y.to_double())
+}
+
+/// What the truncated quotient leaves, exact, with the sign of `x`. Takes no memory.
+///
+/// Fails with `NumberFault::ZeroDivisor` where `y` is zero, and with `NumberFault::OutOfRange` where `x` or `y` is no
+/// number.
+pub fn rem(x: Number, y: Number) -> Result<Number, NumberFault>
+    ensures { result ≡ rem Double x y }
+{
+    if let Some((m, n)) = both_exact(x, y) {
+        return Ok(Number::Whole(whole_rem(m, n)?));
+    }
+    if is_zero(y) {
+        return Err(NumberFault::ZeroDivisor);
+    }
+    settle(remainder(x.to_double(), y.to_double()))
 }
 
 /// The number with the other sign. Takes no memory.

@@ -1,17 +1,19 @@
 // The digits of a double with a number of places behind the point, rounded to the nearest, a tie to the even one.
-ghost use Rattle.std.specs.Prelude.{◌≡◌, ◌+◌, ◌*◌, ◌^◌, ◌<◌, ◌≤◌, ◌⊎◌, ◌++◌, length, replicate};
+ghost use Rattle.std.specs.Prelude.{◌≡◌, ◌+◌, ◌*◌, ◌^◌, ◌<◌, ◌≤◌, ◌++◌, ◌-◌, length, map, replicate};
 ghost use Rattle.std.specs.Prelude.{IfNone, IfOk, IfSome, T};
-ghost use Rattle.std.specs.Float.{float_is_finite};
+ghost use Rattle.std.specs.Float.{float_is_finite, is_sign_negative};
+ghost use Rattle.std.specs.Int.Digits.{digits_of};
 ghost use lib.Ieee.Nearest.{closest};
 ghost use Rattle.awk_numbers.specs.Numbers.{double_of};
 ghost use Rattle.awk_numbers.specs.Decimal.{fixed, fixed_text, pointed};
 ghost use Rattle.awk_numbers.specs.Digits.{IsLarge, rounded, Splits};
 
+use crate::decimal::{cut_text, exact, raised_text};
 use crate::number::Number;
 use itoa::Buffer;
 use std::alloc::{AllocError, Global};
 
-/// As many places behind the point are written.
+/// As many places behind the point fit into 128 bits.
 const MOST_PLACES: u32 = 19;
 
 const HIDDEN: u64 = 0x10_0000_0000_0000;
@@ -82,7 +84,7 @@ pub fn rounded(x: f64, places: u32) -> Option<u128>
 }
 
 /// The digits with a point before the last ones.
-fn pointed(alloc: Global, digits: &[u8], places: usize) -> Result<Vec<u8>, AllocError>
+pub(crate) fn pointed(alloc: Global, digits: &[u8], places: usize) -> Result<Vec<u8>, AllocError>
     requires { places ≤ length digits.now }
     ensures { IfOk result (λ text. text.items ≡ pointed places digits.now) }
 {
@@ -96,43 +98,96 @@ fn pointed(alloc: Global, digits: &[u8], places: usize) -> Result<Vec<u8>, Alloc
     Ok(text)
 }
 
-/// The text of the size of a double with so many digits behind the point, where 128 bits are enough.
-fn unsigned(alloc: Global, x: f64, places: u32) -> Result<Option<Vec<u8>>, AllocError>
-    requires finite { T (float_is_finite x) }
-    requires few { places ≤ 19 }
-    ensures some { IfOk result (λ made. IfSome made (λ text. text.items ≡ fixed x places)) }
-    ensures none { IfOk result (λ made. IfNone made (IsLarge x)) }
+/// The digits of a number, none for 0.
+pub(crate) fn near_digits(alloc: Global, number: u128) -> Result<Vec<u8>, AllocError>
+    ensures { IfOk result (λ text. text.items ≡ map (λ d. 48 + d) (digits_of 10 number)) }
 {
-    let Some(number) = rounded(x, places) else {
-        return Ok(None);
-    };
+    if number == 0 {
+        return Ok(Vec::new(alloc));
+    }
     let mut buffer = Buffer::new();
     let own = buffer.format(number).as_bytes();
+    let text = Vec::from_slice(alloc, own)?;
+    Ok(text)
+}
+
+/// The digits of the size of a double times a power of ten, to the nearest whole number: none for 0.
+fn far_digits(alloc: Global, x: f64, places: u32) -> Result<Vec<u8>, AllocError>
+    requires { T (float_is_finite x) }
+    ensures { IfOk result (λ text. text.items ≡ map (λ d. 48 + d) (digits_of 10 (rounded x places))) }
+{
+    let (digits, all_places) = exact(alloc, x)?;
+    if places < all_places {
+        let text = cut_text(alloc, &digits, (all_places - places) as usize)?;
+        return Ok(text);
+    }
+    let text = raised_text(alloc, &digits, (places - all_places) as usize)?;
+    Ok(text)
+}
+
+/// The same, in 128 bits where they are enough.
+fn digits_at(alloc: Global, x: f64, places: u32) -> Result<Vec<u8>, AllocError>
+    requires { T (float_is_finite x) }
+    ensures { IfOk result (λ text. text.items ≡ map (λ d. 48 + d) (digits_of 10 (rounded x places))) }
+{
+    if MOST_PLACES < places {
+        return far_digits(alloc, x, places);
+    }
+    match rounded(x, places) {
+        Some(number) => near_digits(alloc, number),
+        None => far_digits(alloc, x, places),
+    }
+}
+
+/// The digits with zeros before them where they are fewer.
+pub(crate) fn padded(alloc: Global, own: &[u8], least: usize) -> Result<Vec<u8>, AllocError>
+    ensures { IfOk result (λ all. all.items ≡ replicate (least - length own.now) 48 ++ own.now) }
+{
     let mut all = Vec::new(alloc);
-    all.resize((places as usize + 1).saturating_sub(own.len()), b'0')?;
+    all.resize(least.saturating_sub(own.len()), b'0')?;
     all.extend_from_slice(own)?;
-    Ok(Some(pointed(alloc, &all, places as usize)?))
+    Ok(all)
+}
+
+/// The text of the size of a finite double with so many digits behind the point.
+fn unsigned(alloc: Global, x: f64, places: u32) -> Result<Vec<u8>, AllocError>
+    requires { T (float_is_finite x) }
+    ensures { IfOk result (λ text. text.items ≡ fixed x places) }
+{
+    let own = digits_at(alloc, x, places)?;
+    let all = padded(alloc, &own, places as usize + 1)?;
+    pointed(alloc, &all, places as usize)
+}
+
+/// The text of the size of a double: that of 0 where it is no number.
+fn size_text(alloc: Global, x: f64, places: u32) -> Result<Vec<u8>, AllocError>
+    ensures { IfOk result (λ text. text.items ≡ fixed x places) }
+{
+    if x.is_finite() {
+        unsigned(alloc, x, places)
+    } else {
+        unsigned(alloc, 0.0, places)
+    }
+}
+
+pub(crate) fn is_negative(x: f64) -> bool
+    ensures { result ≡ is_sign_negative x }
+{
+    if x.is_nan() {
+        false
+    } else {
+        x.is_sign_negative()
+    }
 }
 
 /// The text of a number by `%.Nf`: with so many digits behind the point, rounded once, and with its sign.
-///
-/// There is none where more than 19 places are asked for or the size is 2^63 or more: that takes more than 128 bits.
-pub fn fixed(alloc: Global, x: Number, places: u32) -> Result<Option<Vec<u8>>, AllocError>
-    ensures some { IfOk result (λ made. IfSome made (λ text. text.items ≡ fixed_text (double_of x) places)) }
-    ensures none { IfOk result (λ made. IfNone made ((19 < places) ⊎ IsLarge (double_of x))) }
+pub fn fixed(alloc: Global, x: Number, places: u32) -> Result<Vec<u8>, AllocError>
+    ensures { IfOk result (λ text. text.items ≡ fixed_text (double_of x) places) }
 {
     let y = x.to_double();
-    if MOST_PLACES < places {
-        return Ok(None);
-    }
-    if !y.is_finite() {
-        return Ok(None);
-    }
-    let Some(mut text) = unsigned(alloc, y, places)? else {
-        return Ok(None);
-    };
-    if y.is_sign_negative() {
+    let mut text = size_text(alloc, y, places)?;
+    if is_negative(y) {
         text.insert(0, b'-')?;
     }
-    Ok(Some(text))
+    Ok(text)
 }

@@ -1,10 +1,13 @@
 //! Numbers of scripts in two profiles: whole numbers of 64 bits, and IEEE doubles.
 #![tactic(auto)]
 
+pub mod decimal;
 pub mod doubles;
+pub mod exponents;
 pub mod fixed;
 pub mod functions;
 pub mod laws;
 pub mod number;
 pub mod numeral;
 pub mod operators;
+pub mod remainder;

@@ -1,6 +1,6 @@
 // The operators by profile.
 ghost use Rattle.std.specs.Prelude.{◌≡◌};
-ghost use Rattle.awk_numbers.specs.Operators.{add, sub, mul, div, whole_rem, neg, truth, order};
+ghost use Rattle.awk_numbers.specs.Operators.{add, sub, mul, div, rem, whole_rem, neg, truth, order};
 ghost use Rattle.awk_numbers.specs.Operators.{is_bounded, truncated, whole_of};
 
 use crate::doubles;
@@ -70,6 +70,19 @@ pub fn div(numbers: Numbers, x: Number, y: Number) -> Result<Number, NumberFault
             Ok(Number::Whole(m.checked_div(n).ok_or(NumberFault::OutOfRange)?))
         }
         _ => doubles::div(x, y),
+    }
+}
+
+/// What the truncated quotient leaves, exact, with the sign of `x`, by the profile. Takes no memory.
+///
+/// Fails with `NumberFault::ZeroDivisor` where `y` is zero, and with `NumberFault::OutOfRange` where `x` or `y` is no
+/// number of profile double.
+pub fn rem(numbers: Numbers, x: Number, y: Number) -> Result<Number, NumberFault>
+    ensures { result ≡ rem numbers x y }
+{
+    match (numbers, x, y) {
+        (Numbers::Whole, Number::Whole(m), Number::Whole(n)) => Ok(Number::Whole(whole_rem(m, n)?)),
+        _ => doubles::rem(x, y),
     }
 }
 

@@ -1,0 +1,12 @@
+use Rattle.std.proofs.Common.{◌<◌, ap, sym, arith, ◌∙◌}
+use Rattle.awk_numbers.proofs.Sizes.{text, decimal_text}
+use Rattle.awk_numbers.proofs.fixed.near_digits.Goals as goal
+
+pub returns-then-number-eq0 : goal.returns-then-number-eq0
+returns-then-number-eq0 c = c.new.ensures.items ∙ ap text (sym c.if-number-eq0.true)
+
+pub returns : goal.returns
+returns c =
+    let some : 0 < c.args.number = omega (arith, c.if-number-eq0.false) in
+    c.in_ok-text.ensures.items ∙ c.as_bytes-own.ensures.value ∙ c.format.ensures.text
+    ∙ decimal_text c.args.number some c.ranges.number.fits
