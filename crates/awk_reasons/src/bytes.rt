@@ -39,13 +39,17 @@ fn first_char(text: &[u8]) -> Option<char> {
     None
 }
 
-fn known(character: char) -> Option<&'static str> {
-    for (one, words) in CHARACTERS {
-        if one == character {
-            return Some(words);
+fn listed(character: char, characters: &[(char, &'static str)]) -> Option<&'static str> {
+    for (one, words) in characters {
+        if *one == character {
+            return Some(*words);
         }
     }
     None
+}
+
+fn known(character: char) -> Option<&'static str> {
+    listed(character, CHARACTERS.as_slice())
 }
 
 /// What the text begins with, where no token begins with it.

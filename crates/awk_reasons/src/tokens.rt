@@ -81,13 +81,17 @@ const ENDS: [&str; 4] = [")", "]", "++", "--"];
 
 const AFTER_OPERAND: &str = "an operator, ; a new line or } may come next";
 
-fn follower(text: &str) -> Option<&'static str> {
-    for (word, words) in FOLLOWERS {
-        if word == text {
-            return Some(words);
+fn listed(text: &str, followers: &[(&'static str, &'static str)]) -> Option<&'static str> {
+    for (word, words) in followers {
+        if *word == text {
+            return Some(*words);
         }
     }
     None
+}
+
+fn follower(text: &str) -> Option<&'static str> {
+    listed(text, FOLLOWERS.as_slice())
 }
 
 /// What may stand behind this token, or at the start.

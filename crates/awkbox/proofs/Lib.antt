@@ -1,4 +1,5 @@
 mod Consumed
+mod Judging
 mod Spelling
 pub mod Driving
 pub mod OneAnswer

@@ -7,7 +7,14 @@ use Rattle.awk_tokens.specs.Reads.{Reads}
 use Rattle.awk_tokens.specs.declared.syntax_error.SyntaxError.{SyntaxError}
 use Rattle.awk_tokens.specs.declared.token.Token.{Token}
 use Rattle.awk_tree.specs.Tree.{Entry}
-use Rattle.awkbox.specs.Scripts.{Spells, IsScriptRefused}
+use Rattle.awkbox.specs.Accepted.{IsScriptRefused, ReadsScript}
+use Rattle.awkbox.specs.Scripts as spec
+use Rattle.awkbox.specs.Scripts.{Spells}
+
+pub read : (text : List ℕ) (tokens : List Token) (r : Result Script SyntaxError) → Reads text tokens
+    → IfOk r (λ s. IsSpelled tokens s) → IfOk r (λ s. ReadsScript text s)
+read text tokens (Ok s) reads h = record { tokens = tokens; reads = reads; spelled = h }
+read text tokens (Err e) reads h = tt
 
 pub spelled : (text : List ℕ) (tokens : List Token) (r : Result Script SyntaxError) → Reads Whole text tokens
     → IfOk r (λ s. IsSpelled tokens s)
@@ -19,4 +26,9 @@ spelled text tokens (Err e) reads h = tt
 pub refused : (text : List ℕ) (tokens : List Token) (r : Result Script SyntaxError) → Reads Whole text tokens
     → IfErr r (λ e. IsRefused tokens e) → IfErr r (λ e. IsScriptRefused text e)
 refused text tokens (Ok s) reads h = tt
-refused text tokens (Err e) reads h = λ _. inr (tokens, reads, h)
+refused text tokens (Err e) reads h = inr (tokens, reads, h)
+
+pub told : (text : List ℕ) (tokens : List Token) (r : Result Script SyntaxError) → Reads text tokens
+    → IfErr r (λ e. IsRefused tokens e) → IfErr r (λ e. spec.IsScriptRefused text e)
+told text tokens (Ok s) reads h = tt
+told text tokens (Err e) reads h = λ _. inr (tokens, reads, h)

@@ -13,6 +13,8 @@ use Rattle.box_policy.specs.Rebased.{IsRefusedUnder, WrittenUnder}
 use Rattle.box_policy.specs.Rulebook.{Rulebook}
 use Rattle.awkbox.specs.Scripts.{Spells, IsScriptRefused}
 use Rattle.awkbox.specs.declared.answers.Answer.{Answer}
+use Rattle.awkbox.specs.declared.answers.Format.{Format}
+use Rattle.awkbox.specs.declared.answers.Format.TheVariants.{Lines, Json}
 use Rattle.awkbox.specs.declared.listing_refusal.ListingRefusal.{ListingRefusal}
 use Rattle.awkbox.specs.declared.listing_refusal.ListingRefusal.TheVariants.{Policy, Script, Memory}
 
@@ -50,9 +52,14 @@ pub record IsPlain (answer : Answer) : Type 0 where
   pub status : answer.status ≡ 0
   pub not_open : answer.is_open ≡ false
 
-abbrev pub Lists : List ℕ → Answer → Type 0
-Lists text answer =
-    (sites : List Site) × IsListed text sites × (answer.lines.items ≡ lines_of sites) × IsPlain answer
+-- the sites, on lines or as JSON
+abbrev pub told : Format → List Site → List ℕ
+told Lines sites = lines_of sites
+told Json sites = site_lines sites
+
+abbrev pub Lists : Format → List ℕ → Answer → Type 0
+Lists format text answer =
+    (sites : List Site) × IsListed text sites × (answer.lines.items ≡ told format sites) × IsPlain answer
 
 -- 0 where a policy has nothing against a script
 abbrev pub status_of : Verdict → ℕ
@@ -70,20 +77,15 @@ pub record IsOf (verdict : Verdict) (answer : Answer) : Type 0 where
   pub status : answer.status ≡ status_of verdict
   pub openness : answer.is_open ≡ is_open verdict
 
-abbrev pub Checks : Option (List ℕ) → (policy text : List ℕ) → Answer → Type 0
-Checks base policy text answer = (verdict : Verdict) × IsJudged base policy text verdict
-    × (answer.lines.items ≡ verdict_lines verdict) × IsOf verdict answer
+-- the verdict on the sites with those that it is about, or as JSON each site with what is said of it
+abbrev pub judgement : Format → Rulebook → List Site → List ℕ
+judgement Lines book sites = verdict_lines (verdict_on book sites)
+judgement Json book sites = judged_lines book sites
 
--- ---- the same as JSON, where a verdict stands with each site of the listing
+abbrev pub IsJudgement : Format → Rulebook → List Site → Answer → Type 0
+IsJudgement format book sites answer =
+    (answer.lines.items ≡ judgement format book sites) × IsOf (verdict_on book sites) answer
 
-abbrev pub ListsJson : List ℕ → Answer → Type 0
-ListsJson text answer =
-    (sites : List Site) × IsListed text sites × (answer.lines.items ≡ site_lines sites) × IsPlain answer
-
-abbrev pub IsJudgedJson : Rulebook → List Site → Answer → Type 0
-IsJudgedJson book sites answer =
-    (answer.lines.items ≡ judged_lines book sites) × IsOf (verdict_on book sites) answer
-
-abbrev pub ChecksJson : Option (List ℕ) → (policy text : List ℕ) → Answer → Type 0
-ChecksJson base policy text answer = (book : Rulebook) × WrittenUnder base policy book
-    × ((sites : List Site) × IsListed text sites × IsJudgedJson book sites answer)
+abbrev pub Checks : Format → Option (List ℕ) → (policy text : List ℕ) → Answer → Type 0
+Checks format base policy text answer = (book : Rulebook) × WrittenUnder base policy book
+    × ((sites : List Site) × IsListed text sites × IsJudgement format book sites answer)

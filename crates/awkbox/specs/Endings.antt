@@ -7,6 +7,8 @@ use Rattle.awkbox.specs.declared.messages.Ending.{Ending}
 use Rattle.awkbox.specs.declared.messages.Ending.TheVariants.{Quiet, Said}
 use Rattle.awkbox.specs.declared.accepting.Refusal.{Refusal}
 use Rattle.awkbox.specs.declared.accepting.Refusal.TheVariants.{Policy, Script, Assign}
+use Rattle.awkbox.specs.declared.listing_refusal.ListingRefusal.{ListingRefusal}
+use Rattle.awkbox.specs.declared.listing_refusal.ListingRefusal.TheVariants as listing
 use Rattle.awk_run.specs.declared.report.Outcome.{Outcome}
 use Rattle.awk_run.specs.declared.report.Outcome.TheVariants.{Status, Fault, Cut}
 use Rattle.awk_run.specs.declared.report.Report.{Report}
@@ -20,6 +22,11 @@ abbrev pub message_of_refusal : Refusal → Message
 message_of_refusal (Policy error) = says.Policy error
 message_of_refusal (Script error) = says.Script error
 message_of_refusal (Assign pair) = says.Assignment pair
+
+abbrev pub message_of_listing : ListingRefusal → Message
+message_of_listing (listing.Policy error) = says.Policy error
+message_of_listing (listing.Script error) = says.Script error
+message_of_listing listing.Memory = says.OutOfMemory
 
 -- what a run's answer is told by
 abbrev pub ending_of : Result Report Refusal → Ending

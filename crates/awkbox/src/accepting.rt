@@ -1,9 +1,12 @@
 // What is run, and what is refused before a run.
-ghost use Rattle.std.specs.Prelude.{◌≡◌, ◌<◌, ◌^◌, length, None, IfOk, IfErr};
+ghost use Rattle.std.specs.Prelude.{◌≡◌, ◌<◌, ◌^◌, List, length, None, IfOk, IfErr};
 ghost use Rattle.awk_resolve.specs.Assigns.{can_assign};
 ghost use Rattle.awk_parse.specs.Scripts.{IsScript};
+ghost use Rattle.awk_tree.specs.Tree.{Entry};
 ghost use Rattle.awkbox.specs.Accepted.{Accepted, IsRefused, IsScriptRefused, ReadsScript, first_barred};
 ghost use Rattle.awkbox.specs.Bases.{IsBaseRefused};
+ghost use Rattle.awkbox.specs.Scripts as spec;
+ghost use Rattle.awkbox.specs.Scripts.{Spells};
 ghost use Rattle.box_policy.specs.Rebased.{base_refusal, rebased};
 
 use awk_numbers::number::Numbers;
@@ -28,14 +31,13 @@ pub enum Refusal {
 }
 
 /// The script that the bytes spell.
-fn read_script(alloc: Global, script: &[u8]) -> Result<Script, SyntaxError>
+pub(crate) fn read_script(alloc: Global, script: &[u8]) -> Result<Script, SyntaxError>
     ensures ok { IfOk result (ReadsScript script.now) }
+    ensures spells { IfOk result (λ s. (items : List Entry) × Spells script.now items s) }
     ensures refused { IfErr result (IsScriptRefused script.now) }
+    ensures told { IfErr result (spec.IsScriptRefused script.now) }
 {
-    let tokens = match tokens(alloc, Numbers::Whole, script) {
-        Ok(tokens) => tokens,
-        Err(error) => return Err(error),
-    };
+    let tokens = tokens(alloc, Numbers::Whole, script)?;
     parse(alloc, tokens.as_slice())
 }
 

@@ -16,7 +16,7 @@ use serde_json::{Value, json};
 use std::alloc::{AllocError, Global};
 
 /// A run that is over, or a refusal to run.
-#[derive(Debug, Drop)]
+#[derive(Drop)]
 pub enum Account {
     /// The script was run, and so many of its requests were denied.
     Ran {
@@ -58,9 +58,8 @@ fn code_text(alloc: Global, fault: Fault) -> Result<String, AllocError>
 fn fault_value(alloc: Global, fault: Fault, place: Place) -> Result<Value, AllocError>
     ensures { IfOk result (λ value. view value ≡ spec.fault_members fault place) }
 {
-    let code = code_text(alloc, fault)?;
     json!(in alloc; {
-        "code": &code,
+        "code": code_text(alloc, fault)?,
         "column": place.column,
         "line": place.line,
         "text": fault.text(),
@@ -163,16 +162,13 @@ impl Account {
     pub fn value(&self, alloc: Global) -> Result<Value, AllocError>
         ensures { IfOk result (λ value. view value ≡ spec.account_data self.now) }
     {
-        let fault = self.fault(alloc)?;
-        let log = self.log(alloc)?;
-        let refusal = self.refusal(alloc)?;
         json!(in alloc; {
             "denials": self.denials(),
             "exit_status": self.status(),
-            "fault": fault,
-            "log": log,
+            "fault": self.fault(alloc)?,
+            "log": self.log(alloc)?,
             "outcome": self.word(),
-            "refusal": refusal,
+            "refusal": self.refusal(alloc)?,
             "steps": self.steps(),
         })
     }

@@ -8,8 +8,9 @@
 //! says what a run is.
 //!
 //! Without a run, [`sites_of`] and [`verdict_of`] answer what a script may ask of the world and what a policy says of
-//! it; [`list`] and [`check`] answer the lines that the program `awkbox` prints for them, and its exit status.
-//! specs/Answers.antt says what each of the four answers, and specs/Scripts.antt which texts are accepted and refused.
+//! it; [`list`] and [`check`] answer what the program `awkbox` prints for them, on lines or as JSON, and its exit
+//! status. specs/Answers.antt says what each of the four answers, and specs/Scripts.antt which texts are accepted and
+//! refused.
 #![tactic(auto)]
 
 mod accepting;
@@ -26,7 +27,7 @@ mod stack;
 
 pub use accepting::{Prepared, Refusal, prepare};
 pub use account::Account;
-pub use answers::{Answer, check, check_json, list, list_json};
+pub use answers::{Answer, Format, check, list};
 pub use awk_hash::Seed;
 pub use awk_run::{Outcome, Report, Setup, SetupError};
 pub use awk_text::Memory;

@@ -3,6 +3,7 @@ ghost use Rattle.std.specs.Prelude.{◌≡◌, Some, IfOk, string_bytes};
 ghost use Rattle.awk_text.specs.Quoted.{quoted};
 
 use crate::accepting::Refusal;
+use crate::listing_refusal::ListingRefusal;
 use awk_run::{Outcome, Report};
 use awk_text::Memory;
 use awk_text::fault::Fault;
@@ -14,7 +15,7 @@ use std::alloc::{AllocError, Global};
 use std::fmt;
 
 /// One line on standard error.
-#[derive(Debug, Drop)]
+#[derive(Drop)]
 pub enum Message {
     /// The run ended with a fault, at this place of the script.
     Fault(Fault, Place),
@@ -46,7 +47,7 @@ pub enum Message {
 }
 
 /// One of the files that a run is given.
-#[derive(Clone, Copy, Debug, PartialEq, Eq, Drop)]
+#[derive(Clone, Copy, Drop)]
 pub enum OwnFile {
     Log,
     Audit,
@@ -57,7 +58,7 @@ pub enum OwnFile {
 
 /// One line on standard error, before a run that goes on: that a rule lets the script write to a file that the run is
 /// given.
-#[derive(Debug, Drop)]
+#[derive(Drop)]
 pub struct Warning {
     /// The number of the rule.
     pub rule: u32,
@@ -67,7 +68,7 @@ pub struct Warning {
 }
 
 /// How the program ends.
-#[derive(Debug, Drop)]
+#[derive(Drop)]
 pub enum Ending {
     /// With the script's own status, and nothing is said.
     Quiet(u8),
@@ -97,6 +98,21 @@ impl From<Refusal> for Message {
             Refusal::Policy(error) => Message::Policy(error),
             Refusal::Script(error) => Message::Script(error),
             Refusal::Assign(pair) => Message::Assignment(pair),
+        }
+    }
+}
+
+impl From<ListingRefusal> for Message {
+    ghost use Rattle.std.specs.Prelude.{◌≡◌};
+    ghost use Rattle.awkbox.specs.Endings.{message_of_listing};
+
+    ghost from_gives = { λ refusal message. message ≡ message_of_listing refusal };
+
+    fn from(refusal: ListingRefusal) -> Message {
+        match refusal {
+            ListingRefusal::Policy(error) => Message::Policy(error),
+            ListingRefusal::Script(error) => Message::Script(error),
+            ListingRefusal::Memory => Message::OutOfMemory,
         }
     }
 }

@@ -8,7 +8,7 @@ ghost use Rattle.awkbox.specs.OwnFiles.{rule_of_name, writing_rule};
 use box_policy::policy::{Decision, Kind, Policy};
 
 /// What tells a file from every other one, whatever name it is opened by.
-#[derive(Clone, Copy, Debug, Drop)]
+#[derive(Clone, Copy, Drop)]
 pub struct Identity {
     /// The device that it lies on.
     pub device: u64,

@@ -10,7 +10,7 @@ use clap::error::ErrorKind;
 const WORDS_REFUSED: u8 = 3;
 
 /// Why nothing is asked for.
-#[derive(Clone, Copy, Debug, PartialEq, Eq, Drop)]
+#[derive(Clone, Copy, Drop)]
 pub enum NotAsked {
     /// The user was told: the help or the version that the words ask for, with status 0, or on standard error what is
     /// wrong with the words, with status 3. The program ends with this status.
@@ -52,9 +52,8 @@ pub fn read_asked<'a>(
     operands: &[Octets],
 ) -> Result<Asked<'a>, NotAsked> {
     match command_line::read(rt.alloc(), options) {
-        Ok(Asked::Run(run)) => Ok(Asked::Run(run)),
-        Ok(_) if !operands.is_empty() => Err(told(rt, &fault(rt.alloc(), "a word too many"))),
-        Ok(asked) => Ok(asked),
+        Ok(asked) if operands.is_empty() || matches!(asked, Asked::Run(_)) => Ok(asked),
+        Ok(_) => Err(told(rt, &fault(rt.alloc(), "a word too many"))),
         Err(error) => Err(told(rt, &error)),
     }
 }

@@ -5,7 +5,7 @@ use clap::{Arg, ArgAction, ArgMatches, Command, Error};
 use std::alloc::{AllocError, Global};
 
 /// A part of a script, as the words give it. Several are one script, in order, a newline between one and the next.
-#[derive(Clone, Copy, Debug, PartialEq, Eq, Drop)]
+#[derive(Clone, Copy, Drop)]
 pub enum ScriptPart<'a> {
     /// The name of a file, or [`STANDARD_INPUT`].
     File(&'a str),
@@ -14,7 +14,7 @@ pub enum ScriptPart<'a> {
 }
 
 /// What `awkbox run` is asked for, operands aside.
-#[derive(Debug, Drop)]
+#[derive(Drop)]
 pub struct Run<'a> {
     /// The name of the policy's file, or [`STANDARD_INPUT`], which not both of policy and script are.
     pub policy: &'a str,
@@ -47,7 +47,7 @@ pub struct Run<'a> {
 
 /// What `awkbox why` is asked for: what the policy of this file decides of the text, and whether that counts as an
 /// operand.
-#[derive(Debug, Drop)]
+#[derive(Drop)]
 pub struct Why<'a> {
     /// The name of the policy's file, or [`STANDARD_INPUT`].
     pub policy: &'a str,
@@ -63,7 +63,7 @@ pub struct Why<'a> {
 
 /// What `awkbox check` is asked for: what this policy says of this script, of which at most one is
 /// [`STANDARD_INPUT`].
-#[derive(Debug, Drop)]
+#[derive(Drop)]
 pub struct Check<'a> {
     /// The name of the policy's file.
     pub policy: &'a str,
@@ -79,7 +79,7 @@ pub struct Check<'a> {
 
 /// What `awkbox lint` is asked for: what is wrong with this policy, or what of this script other awks do otherwise. One
 /// of the two is there, and at most one file is [`STANDARD_INPUT`].
-#[derive(Debug, Drop)]
+#[derive(Drop)]
 pub struct Lint<'a> {
     /// The name of the policy's file.
     pub policy: Option<&'a str>,
@@ -94,7 +94,7 @@ pub struct Lint<'a> {
 /// What `awkbox propose` is asked for: a policy that allows what this script may ask for and what this log tells of,
 /// under this base, or behind the rules of the policy of this file. One of base and policy is there, and at most one
 /// of the files is [`STANDARD_INPUT`].
-#[derive(Debug, Drop)]
+#[derive(Drop)]
 pub struct Propose<'a> {
     /// The folder that relative names stand under, in place of the policy's own where there is one.
     pub base: Option<&'a str>,
@@ -107,7 +107,7 @@ pub struct Propose<'a> {
 }
 
 /// What `awkbox list` is asked for.
-#[derive(Debug, Drop)]
+#[derive(Drop)]
 pub struct List<'a> {
     /// The parts of the script, one at least.
     pub script: Vec<ScriptPart<'a>>,
@@ -118,7 +118,7 @@ pub struct List<'a> {
 }
 
 /// What the program is asked for. Of the files of policy and script at most one is [`STANDARD_INPUT`].
-#[derive(Debug, Drop)]
+#[derive(Drop)]
 pub enum Asked<'a> {
     /// To run a script under a policy.
     Run(Run<'a>),
@@ -171,40 +171,50 @@ fn option<'a>(alloc: Global, id: &'a str, value: &'a str, help: &'a str) -> Arg<
         .help(help)
 }
 
+// The same, by its long name.
+fn long_option<'a>(alloc: Global, name: &'a str, value: &'a str, help: &'a str) -> Arg<'a> {
+    option(alloc, name, value, help).long(name)
+}
+
+// An option without a value.
+fn flag<'a>(alloc: Global, name: &'a str, help: &'a str) -> Arg<'a> {
+    Arg::new(alloc, name)
+        .action(ArgAction::SetTrue)
+        .long(name)
+        .help(help)
+}
+
 fn policy<'a>(alloc: Global) -> Arg<'a> {
     let help = "The policy that decides what the script may do";
-    option(alloc, "policy", "FILE", help)
-        .long("policy")
-        .required(true)
+    long_option(alloc, "policy", "FILE", help).required(true)
 }
 
 fn log<'a>(alloc: Global) -> Arg<'a> {
     let help = "Where each denial is told; made or emptied, and then added to at its end";
-    option(alloc, "log", "FILE", help)
-        .long("log")
-        .required(true)
+    long_option(alloc, "log", "FILE", help).required(true)
 }
 
 fn log_append<'a>(alloc: Global) -> Arg<'a> {
-    Arg::new(alloc, "log-append")
-        .action(ArgAction::SetTrue)
-        .long("log-append")
-        .help("The log is not emptied before the run, so that runs may share one")
+    flag(
+        alloc,
+        "log-append",
+        "The log is not emptied before the run, so that runs may share one",
+    )
 }
 
 fn log_limit<'a>(alloc: Global) -> Arg<'a> {
     let help = "How many bytes the run may add to the log";
-    option(alloc, "log-limit", "BYTES", help).long("log-limit")
+    long_option(alloc, "log-limit", "BYTES", help)
 }
 
 fn audit<'a>(alloc: Global) -> Arg<'a> {
     let help = "Where each allowed request is told, and whether it failed; made or emptied";
-    option(alloc, "audit", "FILE", help).long("audit")
+    long_option(alloc, "audit", "FILE", help)
 }
 
 fn report<'a>(alloc: Global) -> Arg<'a> {
     let help = "Where the end of the run is told as a JSON object; made or emptied";
-    option(alloc, "report", "FILE", help).long("report")
+    long_option(alloc, "report", "FILE", help)
 }
 
 fn folder<'a>(alloc: Global) -> Arg<'a> {
@@ -237,31 +247,27 @@ fn last_script<'a>(alloc: Global) -> Arg<'a> {
 }
 
 fn files<'a>(alloc: Global) -> Arg<'a> {
-    Arg::new(alloc, "files")
-        .action(ArgAction::SetTrue)
-        .long("files")
-        .help("Tells in place of that which lines of the script are whose")
+    flag(
+        alloc,
+        "files",
+        "Tells in place of that which lines of the script are whose",
+    )
 }
 
 fn allow_open<'a>(alloc: Global) -> Arg<'a> {
-    Arg::new(alloc, "allow-open")
-        .action(ArgAction::SetTrue)
-        .long("allow-open")
-        .help("A script that is open ends with 0 too")
+    flag(alloc, "allow-open", "A script that is open ends with 0 too")
 }
 
 fn json<'a>(alloc: Global) -> Arg<'a> {
-    Arg::new(alloc, "json")
-        .action(ArgAction::SetTrue)
-        .long("json")
-        .help("A JSON object is printed for each site")
+    flag(alloc, "json", "A JSON object is printed for each site")
 }
 
 fn strict<'a>(alloc: Global) -> Arg<'a> {
-    Arg::new(alloc, "strict")
-        .action(ArgAction::SetTrue)
-        .long("strict")
-        .help("A line that tells of anything makes the exit status 1")
+    flag(
+        alloc,
+        "strict",
+        "A line that tells of anything makes the exit status 1",
+    )
 }
 
 fn kind<'a>(alloc: Global) -> Arg<'a> {
@@ -280,34 +286,34 @@ fn text<'a>(alloc: Global) -> Arg<'a> {
 }
 
 fn given<'a>(alloc: Global) -> Arg<'a> {
-    Arg::new(alloc, "given")
-        .action(ArgAction::SetTrue)
-        .long("given")
-        .help("It is an operand that the run was started with")
+    flag(
+        alloc,
+        "given",
+        "It is an operand that the run was started with",
+    )
 }
 
 fn base<'a>(alloc: Global) -> Arg<'a> {
     let help = "The folder that relative names stand under, in place of the policy's own";
-    option(alloc, "base", "DIR", help).long("base")
+    long_option(alloc, "base", "DIR", help)
 }
 
 fn denials<'a>(alloc: Global) -> Arg<'a> {
     let help = "A log of denials, which are to be allowed";
-    option(alloc, "log", "FILE", help).long("log")
+    long_option(alloc, "log", "FILE", help)
 }
 
 fn steps<'a>(alloc: Global) -> Arg<'a> {
     let help = "How many steps the run may take, up to 1000000000000";
-    option(alloc, "steps", "N", help)
-        .long("steps")
-        .default_value("10000000")
+    long_option(alloc, "steps", "N", help).default_value("10000000")
 }
 
 fn block_buffered<'a>(alloc: Global) -> Arg<'a> {
-    Arg::new(alloc, "block-buffered")
-        .action(ArgAction::SetTrue)
-        .long("block-buffered")
-        .help("What the script prints is written in blocks of up to 65536 bytes")
+    flag(
+        alloc,
+        "block-buffered",
+        "What the script prints is written in blocks of up to 65536 bytes",
+    )
 }
 
 fn separator<'a>(alloc: Global) -> Arg<'a> {
@@ -331,8 +337,13 @@ fn operands<'a>(alloc: Global) -> Arg<'a> {
         .help("A file that is read, - for the standard input, or NAME=TEXT")
 }
 
+// Who has a command hands it on before the next step may fail, so that it is not let go at each of them.
+fn with_script<'a>(command: Command<'a>, alloc: Global) -> Result<Command<'a>, AllocError> {
+    command.arg(needed_script(alloc)?)?.arg(source(alloc))
+}
+
 fn run_command<'a>(alloc: Global) -> Result<Command<'a>, AllocError> {
-    Command::new(alloc, "run")
+    let command = Command::new(alloc, "run")
         .about("Runs an awk script under a policy")
         .after_help(RUN_STATUSES)
         .arg(policy(alloc))?
@@ -346,33 +357,30 @@ fn run_command<'a>(alloc: Global) -> Result<Command<'a>, AllocError> {
         .arg(steps(alloc))?
         .arg(block_buffered(alloc))?
         .arg(separator(alloc))?
-        .arg(assigns(alloc))?
-        .arg(needed_script(alloc)?)?
-        .arg(source(alloc))?
+        .arg(assigns(alloc))?;
+    with_script(command, alloc)?
         .arg(last_script(alloc))?
         .arg(operands(alloc))
 }
 
 fn list_command<'a>(alloc: Global) -> Result<Command<'a>, AllocError> {
-    Command::new(alloc, "list")
+    let command = Command::new(alloc, "list")
         .about("Lists where a run of a script may ask for a file, a command or the environment")
         .after_help(TOLD_STATUSES)
         .arg(files(alloc))?
-        .arg(json(alloc))?
-        .arg(needed_script(alloc)?)?
-        .arg(source(alloc))
+        .arg(json(alloc))?;
+    with_script(command, alloc)
 }
 
 fn check_command<'a>(alloc: Global) -> Result<Command<'a>, AllocError> {
-    Command::new(alloc, "check")
+    let command = Command::new(alloc, "check")
         .about("Tells before any run whether a policy denies what a script may ask for")
         .after_help(TOLD_STATUSES)
         .arg(policy(alloc))?
         .arg(base(alloc))?
         .arg(allow_open(alloc))?
-        .arg(json(alloc))?
-        .arg(needed_script(alloc)?)?
-        .arg(source(alloc))
+        .arg(json(alloc))?;
+    with_script(command, alloc)
 }
 
 fn why_command<'a>(alloc: Global) -> Result<Command<'a>, AllocError> {
@@ -408,18 +416,31 @@ fn propose_command<'a>(alloc: Global) -> Result<Command<'a>, AllocError> {
         .arg(source(alloc))
 }
 
+fn with<'a>(
+    command: Command<'a>,
+    inner: Result<Command<'a>, AllocError>,
+) -> Result<Command<'a>, AllocError> {
+    command.subcommand(inner?)
+}
+
+fn bare_command<'a>(alloc: Global) -> Result<Command<'a>, AllocError> {
+    Ok(
+        Command::new(alloc, NAME)
+            .bin_name(NAME)?
+            .about("Runs awk scripts in a sandbox, under a written policy")
+            .version(VERSION)
+            .subcommand_required(true),
+    )
+}
+
 fn command<'a>(alloc: Global) -> Result<Command<'a>, AllocError> {
-    Command::new(alloc, NAME)
-        .bin_name(NAME)?
-        .about("Runs awk scripts in a sandbox, under a written policy")
-        .version(VERSION)
-        .subcommand_required(true)
-        .subcommand(run_command(alloc)?)?
-        .subcommand(list_command(alloc)?)?
-        .subcommand(check_command(alloc)?)?
-        .subcommand(why_command(alloc)?)?
-        .subcommand(lint_command(alloc)?)?
-        .subcommand(propose_command(alloc)?)
+    let command = bare_command(alloc)?;
+    let command = with(command, run_command(alloc))?;
+    let command = with(command, list_command(alloc))?;
+    let command = with(command, check_command(alloc))?;
+    let command = with(command, why_command(alloc))?;
+    let command = with(command, lint_command(alloc))?;
+    with(command, propose_command(alloc))
 }
 
 // Digits alone, where `parse` would take a sign too.
@@ -520,7 +541,7 @@ fn inputs_of(files: [Option<&str>; 2], parts: &[ScriptPart<'_>]) -> usize {
         }
     }
     for part in parts {
-        if *part == ScriptPart::File(STANDARD_INPUT) {
+        if let ScriptPart::File(STANDARD_INPUT) = part {
             count = count.saturating_add(1);
         }
     }

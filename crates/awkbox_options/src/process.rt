@@ -6,7 +6,7 @@ use std::env::FillError;
 use std::rt::Env;
 
 /// What the system keeps a list of.
-#[derive(Clone, Copy, Debug, PartialEq, Eq, Drop)]
+#[derive(Clone, Copy, Drop)]
 pub enum List {
     /// The words that the process was started with, of which the first is its own name.
     Words,

@@ -31,7 +31,7 @@ const TEXT: &str = "-e";
 const LAST: &str = "-E";
 
 // What the next word is.
-#[derive(Clone, Copy, Debug, PartialEq, Eq, Drop)]
+#[derive(Clone, Copy, PartialEq, Eq, Drop)]
 enum Next {
     Option,
     /// The value of an option; of `-f` it is the script's file.
@@ -58,9 +58,9 @@ fn wants_value(word: &str) -> bool {
 
 // The short option that this word begins with, and the value that is attached to it.
 fn cut(word: &str) -> Option<(&'static str, &str)> {
-    for short in SHORT {
-        if let Some(value) = word.strip_prefix(short) {
-            return Some((short, value));
+    for short in SHORT.as_slice() {
+        if let Some(value) = word.strip_prefix(*short) {
+            return Some((*short, value));
         }
     }
     None

@@ -4,7 +4,7 @@ use crate::runs::read_source;
 use crate::scripts::read_script;
 use awk_hints::script_lines;
 use awk_sources::Lines;
-use awkbox::{ListingRefusal, Memory, Message, list};
+use awkbox::{Memory, Message, sites_of};
 use awkbox_options::{Lint, ScriptPart, Why};
 use box_advice::{Findings, Wanted, explained, lint};
 
@@ -80,24 +80,19 @@ fn lint_policy(rt: &HostRuntime, policy: &str, base: Option<&str>) -> Result<Tol
     }
 }
 
-// Whether the script is accepted, as a listing of it tells.
-fn accept(rt: &HostRuntime, script: &[u8]) -> Result<(), Message> {
-    match list(rt.alloc(), script) {
-        Ok(_) => Ok(()),
-        Err(ListingRefusal::Policy(error)) => Err(Message::Policy(error)),
-        Err(ListingRefusal::Script(error)) => Err(Message::Script(error)),
-        Err(ListingRefusal::Memory) => Err(Message::OutOfMemory),
-    }
-}
-
 fn lint_script(
     rt: &HostRuntime,
     parts: &[ScriptPart<'_>],
     lines: &mut Option<Lines>,
 ) -> Result<Told, Message> {
     let source = read_script(rt, parts, lines)?;
-    accept(rt, source.bytes.as_slice())?;
-    match script_lines(rt.alloc(), source.bytes.as_slice()) {
+    lint_text(rt, source.bytes.as_slice())
+}
+
+// A script that has no listing is refused.
+fn lint_text(rt: &HostRuntime, script: &[u8]) -> Result<Told, Message> {
+    sites_of(rt.alloc(), script)?;
+    match script_lines(rt.alloc(), script) {
         Ok(lines) => Ok(print_lines(rt, lines.as_str())),
         Err(error) => Err(Message::Script(error)),
     }

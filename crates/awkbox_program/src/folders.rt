@@ -9,10 +9,15 @@ use std::path::{PathBuf, absolute as absolute_path};
 pub struct Folders {
     started: PathBuf,
     here: PathBuf,
+    base: Option<PathBuf>,
 }
 
-/// Enters the folder of this name, where there is one.
-pub fn enter(rt: &HostRuntime, folder: Option<&str>) -> Result<Folders, Message> {
+/// Enters the folder of this name, where there is one. A base that is given stands under it.
+pub fn enter(
+    rt: &HostRuntime,
+    folder: Option<&str>,
+    base: Option<&str>,
+) -> Result<Folders, Message> {
     let started = current(rt)?;
     if let Some(name) = folder {
         if set_current_dir(rt, name).is_err() {
@@ -22,6 +27,7 @@ pub fn enter(rt: &HostRuntime, folder: Option<&str>) -> Result<Folders, Message>
     Ok(Folders {
         started,
         here: current(rt)?,
+        base: base_name(rt, base)?,
     })
 }
 
@@ -36,6 +42,11 @@ impl Folders {
     /// The folder that the run is in.
     pub fn here(&self) -> &str {
         self.here.as_str()
+    }
+
+    /// The base that is given.
+    pub fn base(&self) -> Option<&[u8]> {
+        base_bytes(&self.base)
     }
 
     /// The absolute form of a name that stands in the words of the command line.

@@ -9,7 +9,7 @@ use crate::stack::has_small_stack;
 use crate::standard;
 use crate::standard::hold_closed;
 use awk_sources::Lines;
-use awkbox::{Answer, ListingRefusal, Message, Octets, check, check_json, list, list_json};
+use awkbox::{Answer, Format, Message, Octets, check, list};
 use awkbox_options::{Asked, Check, List, NotAsked, Words, read_asked, read_words};
 
 /// Does what the words ask for, tells on standard error what went wrong, and gives the exit status.
@@ -106,13 +106,9 @@ fn list_script(
     if asked.tells_files {
         return tell_files(rt, lines);
     }
-    let script = script.bytes.as_slice();
-    let answer = if asked.is_json {
-        list_json(rt.alloc(), script)
-    } else {
-        list(rt.alloc(), script)
-    };
-    told(rt, answer)
+    let format = format_of(asked.is_json);
+    let answer = list(rt.alloc(), script.bytes.as_slice(), format)?;
+    Ok(told(rt, &answer))
 }
 
 // Prints which lines are whose. That it cannot be written is passed over.
@@ -131,36 +127,35 @@ fn check_files(
 ) -> Result<u8, Message> {
     let policy = read_source(rt, asked.policy)?;
     let script = read_script(rt, asked.script.as_slice(), lines)?;
+    check_texts(rt, asked, policy.bytes.as_slice(), script.bytes.as_slice())
+}
+
+fn check_texts(
+    rt: &HostRuntime,
+    asked: &Check<'_>,
+    policy: &[u8],
+    script: &[u8],
+) -> Result<u8, Message> {
     let base = base_name(rt, asked.base)?;
-    let base = base_bytes(&base);
-    let (policy, script) = (policy.bytes.as_slice(), script.bytes.as_slice());
-    let answer = if asked.is_json {
-        check_json(rt.alloc(), policy, base, script)
+    let format = format_of(asked.is_json);
+    let answer = check(rt.alloc(), policy, base_bytes(&base), script, format)?;
+    let status = told(rt, &answer);
+    Ok(if asked.allows_open && answer.is_open {
+        0
     } else {
-        check(rt.alloc(), policy, base, script)
-    };
-    let passes = asked.allows_open && is_open(&answer);
-    let status = told(rt, answer)?;
-    Ok(if passes { 0 } else { status })
+        status
+    })
 }
 
-// Whether a verdict says that the script is open.
-fn is_open(answer: &Result<Answer, ListingRefusal>) -> bool {
-    match answer {
-        Ok(answer) => answer.is_open,
-        Err(_) => false,
+fn format_of(is_json: bool) -> Format {
+    match is_json {
+        true => Format::Json,
+        false => Format::Lines,
     }
 }
 
-// Prints a listing or a verdict. That it cannot be written is passed over.
-fn told(rt: &HostRuntime, answer: Result<Answer, ListingRefusal>) -> Result<u8, Message> {
-    match answer {
-        Ok(answer) => {
-            let _ = rt.stdout().write_all(answer.lines.as_slice());
-            Ok(answer.status)
-        }
-        Err(ListingRefusal::Policy(error)) => Err(Message::Policy(error)),
-        Err(ListingRefusal::Script(error)) => Err(Message::Script(error)),
-        Err(ListingRefusal::Memory) => Err(Message::OutOfMemory),
-    }
+// Prints a listing or a verdict, and gives its status. That it cannot be written is passed over.
+fn told(rt: &HostRuntime, answer: &Answer) -> u8 {
+    let _ = rt.stdout().write_all(answer.lines.as_slice());
+    answer.status
 }

@@ -3,7 +3,7 @@ use crate::folders::base_name;
 use crate::runs::read_source;
 use crate::scripts::read_script;
 use awk_sources::Lines;
-use awkbox::{ListingRefusal, Message, sites_of};
+use awkbox::{Message, sites_of};
 use awkbox_options::{Propose, ScriptPart};
 use box_advice::{Basis, LogError, Origin, ProposalError, Wish, propose, read_log};
 use std::alloc::{AllocError, Global};
@@ -25,7 +25,8 @@ pub fn propose_policy(
             let _ = rt.stdout().write_all(text.as_slice());
             Ok(0)
         }
-        Err(refusal) => refusal.told(rt),
+        Err(NotProposed::Message(message)) => Err(message),
+        Err(NotProposed::Told) => Ok(REFUSED),
     }
 }
 
@@ -33,8 +34,8 @@ pub fn propose_policy(
 #[derive(Drop)]
 enum NotProposed {
     Message(Message),
-    Log(LogError),
-    Proposal(ProposalError),
+    /// It was told, by a message that is no run's.
+    Told,
 }
 
 impl From<Message> for NotProposed {
@@ -49,46 +50,24 @@ impl From<AllocError> for NotProposed {
     }
 }
 
-impl From<ListingRefusal> for NotProposed {
-    fn from(refusal: ListingRefusal) -> NotProposed {
-        NotProposed::Message(match refusal {
-            ListingRefusal::Script(error) => Message::Script(error),
-            ListingRefusal::Policy(error) => Message::Policy(error),
-            ListingRefusal::Memory => Message::OutOfMemory,
-        })
+fn not_read(rt: &HostRuntime, error: LogError) -> NotProposed {
+    match error {
+        LogError::Memory => NotProposed::Message(Message::OutOfMemory),
+        error => tell(rt, &error),
     }
 }
 
-impl From<LogError> for NotProposed {
-    fn from(error: LogError) -> NotProposed {
-        NotProposed::Log(error)
+fn not_proposed(rt: &HostRuntime, error: ProposalError) -> NotProposed {
+    match error {
+        ProposalError::Memory => NotProposed::Message(Message::OutOfMemory),
+        ProposalError::Policy(error) => NotProposed::Message(Message::Policy(error)),
+        error => tell(rt, &error),
     }
 }
 
-impl From<ProposalError> for NotProposed {
-    fn from(error: ProposalError) -> NotProposed {
-        NotProposed::Proposal(error)
-    }
-}
-
-impl NotProposed {
-    fn told(self, rt: &HostRuntime) -> Result<u8, Message> {
-        match self {
-            NotProposed::Message(message) => Err(message),
-            NotProposed::Log(LogError::Memory) | NotProposed::Proposal(ProposalError::Memory) => {
-                Err(Message::OutOfMemory)
-            }
-            NotProposed::Proposal(ProposalError::Policy(error)) => Err(Message::Policy(error)),
-            NotProposed::Log(error) => say(rt, &error),
-            NotProposed::Proposal(error) => say(rt, &error),
-        }
-    }
-}
-
-// A message that is no run's.
-fn say<E: Display>(rt: &HostRuntime, error: &E) -> Result<u8, Message> {
+fn tell<E: Display>(rt: &HostRuntime, error: &E) -> NotProposed {
     let _ = eprintln!(rt; "awkbox: {error}");
-    Ok(REFUSED)
+    NotProposed::Told
 }
 
 // The text of the policy, behind the rules of the one that is named or under the base.
@@ -101,10 +80,18 @@ fn proposed(
     let base = base_name(rt, asked.base)?;
     match asked.policy {
         Some(policy) => behind_file(rt, policy, base_text(&base), wishes.as_slice()),
-        None => {
-            let start = Basis::Base(base_text(&base).unwrap_or(""));
-            Ok(propose(rt.alloc(), start, wishes.as_slice())?)
-        }
+        None => under_base(rt, base_text(&base), wishes.as_slice()),
+    }
+}
+
+fn under_base(
+    rt: &HostRuntime,
+    base: Option<&str>,
+    wishes: &[Wish],
+) -> Result<Vec<u8>, NotProposed> {
+    match propose(rt.alloc(), Basis::Base(base.unwrap_or("")), wishes) {
+        Ok(text) => Ok(text),
+        Err(error) => Err(not_proposed(rt, error)),
     }
 }
 
@@ -122,7 +109,10 @@ fn behind_file(
     wishes: &[Wish],
 ) -> Result<Vec<u8>, NotProposed> {
     let policy = read_source(rt, policy)?;
-    Ok(behind(rt.alloc(), policy.bytes.as_slice(), base, wishes)?)
+    match behind(rt.alloc(), policy.bytes.as_slice(), base, wishes) {
+        Ok(text) => Ok(text),
+        Err(error) => Err(not_proposed(rt, error)),
+    }
 }
 
 // The start holds text and base as if they were lent equally long.
@@ -160,7 +150,7 @@ fn add_script(
     Ok(add_sites(rt.alloc(), script.bytes.as_slice(), wishes)?)
 }
 
-fn add_sites(alloc: Global, script: &[u8], wishes: &mut Vec<Wish>) -> Result<(), ListingRefusal> {
+fn add_sites(alloc: Global, script: &[u8], wishes: &mut Vec<Wish>) -> Result<(), Message> {
     for site in sites_of(alloc, script)? {
         let wish = Wish {
             kind: site.kind,
@@ -169,7 +159,7 @@ fn add_sites(alloc: Global, script: &[u8], wishes: &mut Vec<Wish>) -> Result<(),
             origin: Origin::Script(site.place),
         };
         if wishes.push(wish).is_err() {
-            return Err(ListingRefusal::Memory);
+            return Err(Message::OutOfMemory);
         }
     }
     Ok(())
@@ -177,7 +167,10 @@ fn add_sites(alloc: Global, script: &[u8], wishes: &mut Vec<Wish>) -> Result<(),
 
 fn add_log(rt: &HostRuntime, log: &str, wishes: &mut Vec<Wish>) -> Result<(), NotProposed> {
     let log = read_source(rt, log)?;
-    Ok(add_denials(rt.alloc(), log.bytes.as_slice(), wishes)?)
+    match add_denials(rt.alloc(), log.bytes.as_slice(), wishes) {
+        Ok(()) => Ok(()),
+        Err(error) => Err(not_read(rt, error)),
+    }
 }
 
 fn add_denials(alloc: Global, log: &[u8], wishes: &mut Vec<Wish>) -> Result<(), LogError> {

@@ -1,5 +1,5 @@
 // Why a message was said, on a line of its own behind it.
-use crate::files::{MOST_BYTES, ReadFile, last_bytes, read};
+use crate::files::{MOST_BYTES, last_bytes, read};
 use crate::folders::{absolute, base_name};
 use awk_reasons::{denied, reason, told_of};
 use awkbox::{Fault, Memory, Message, Place, Policy, PolicyError, SyntaxError};
@@ -19,23 +19,22 @@ pub struct Files {
 impl Files {
     /// Those of the words of the command line.
     pub fn of(rt: &HostRuntime, asked: &Asked<'_>) -> Result<Files, Memory> {
-        let log = match asked {
-            Asked::Run(run) => Some(run.log),
-            Asked::Propose(propose) => propose.log,
-            _ => None,
-        };
-        let mut script = Vec::new(rt.alloc());
-        for part in script_of(asked) {
-            script.push(match part {
-                ScriptPart::File(name) => absolute_of(rt, Some(*name))?,
-                ScriptPart::Text(_) => None,
-            })?;
-        }
         Ok(Files {
-            script,
-            log: absolute_of(rt, log)?,
+            script: part_names(rt, script_of(asked))?,
+            log: absolute_of(rt, log_of(asked))?,
         })
     }
+}
+
+fn part_names(rt: &HostRuntime, parts: &[ScriptPart<'_>]) -> Result<Vec<Option<PathBuf>>, Memory> {
+    let mut names = Vec::new(rt.alloc());
+    for part in parts {
+        names.push(match part {
+            ScriptPart::File(name) => absolute_of(rt, Some(*name))?,
+            ScriptPart::Text(_) => None,
+        })?;
+    }
+    Ok(names)
 }
 
 fn script_of<'b, 'a>(asked: &'b Asked<'a>) -> &'b [ScriptPart<'a>] {
@@ -71,6 +70,14 @@ fn base_of<'a>(asked: &Asked<'a>) -> Option<&'a str> {
     }
 }
 
+fn log_of<'a>(asked: &Asked<'a>) -> Option<&'a str> {
+    match asked {
+        Asked::Run(run) => Some(run.log),
+        Asked::Propose(propose) => propose.log,
+        _ => None,
+    }
+}
+
 // None of the standard input.
 fn absolute_of(rt: &HostRuntime, name: Option<&str>) -> Result<Option<PathBuf>, Memory> {
     match name {
@@ -81,150 +88,139 @@ fn absolute_of(rt: &HostRuntime, name: Option<&str>) -> Result<Option<PathBuf>, 
 
 /// Tells more of the message, where there is more to be told. For want of memory there is not.
 pub fn tell_why(rt: &HostRuntime, asked: &Asked<'_>, files: &Files, message: &Message) {
-    if let Ok(Some(note)) = note(rt, asked, files, message) {
+    if let Some(note) = note(rt, asked, files, message) {
         let _ = eprintln!(rt; "awkbox: note: {note}");
     }
 }
 
-fn note(
-    rt: &HostRuntime,
-    asked: &Asked<'_>,
-    files: &Files,
-    message: &Message,
-) -> Result<Option<String>, Memory> {
+fn note(rt: &HostRuntime, asked: &Asked<'_>, files: &Files, message: &Message) -> Option<String> {
     match message {
         Message::Script(error) => of_script(rt, asked, files, *error),
         Message::Policy(error) => of_policy(rt, asked, *error),
         Message::Unspelled(pair) | Message::Assignment(pair) => of_assignment(rt, asked, *pair),
         Message::CannotRead(_) => of_unread(rt, asked, files),
         Message::Fault(Fault::Output, place) => of_unwritten(rt, files, *place),
-        _ => Ok(None),
+        _ => None,
     }
 }
 
-// The script is read again. It cannot be, where a part of it came from the standard input.
 fn of_script(
     rt: &HostRuntime,
     asked: &Asked<'_>,
     files: &Files,
     error: SyntaxError,
-) -> Result<Option<String>, Memory> {
-    let mut bytes = Vec::new(rt.alloc());
-    let mut is_first = true;
-    for (part, file) in script_of(asked).iter().zip(files.script.as_slice()) {
-        if !is_first {
-            bytes.push(b'\n')?;
-        }
-        is_first = false;
-        if !add_part(rt, part, file, &mut bytes)? {
-            return Ok(None);
-        }
+) -> Option<String> {
+    let bytes = read_again(rt, script_of(asked), files.script.as_slice())?;
+    let words = reason(rt.alloc(), bytes.as_slice(), error).ok()?;
+    match words.as_str().is_empty() {
+        true => None,
+        false => Some(words),
     }
-    let words = reason(rt.alloc(), bytes.as_slice(), error)?;
-    Ok(if words.as_str().is_empty() {
-        None
-    } else {
-        Some(words)
-    })
 }
 
-// Adds a part of the script behind those that were read, and tells whether it could be read.
+// The script once more. It cannot be read, where a part of it came from the standard input.
+fn read_again(
+    rt: &HostRuntime,
+    parts: &[ScriptPart<'_>],
+    files: &[Option<PathBuf>],
+) -> Option<Vec<u8>> {
+    let mut bytes = Vec::new(rt.alloc());
+    for (part, file) in parts.iter().zip(files) {
+        add_part(rt, part, file, &mut bytes)?;
+        bytes.push(b'\n').ok()?;
+    }
+    // a newline stands between parts alone
+    bytes.pop();
+    Some(bytes)
+}
+
 fn add_part(
     rt: &HostRuntime,
     part: &ScriptPart<'_>,
     file: &Option<PathBuf>,
     bytes: &mut Vec<u8>,
-) -> Result<bool, Memory> {
+) -> Option<()> {
     match (part, file) {
-        (ScriptPart::Text(text), _) => bytes.extend_from_slice(text.as_bytes())?,
-        (ScriptPart::File(_), Some(name)) => match read(rt, name.as_str()) {
-            Ok(ReadFile { bytes: more, .. }) => bytes.extend_from_slice(more.as_slice())?,
-            Err(_) => return Ok(false),
-        },
-        (ScriptPart::File(_), None) => return Ok(false),
+        (ScriptPart::Text(text), _) => bytes.extend_from_slice(text.as_bytes()).ok(),
+        (ScriptPart::File(_), Some(name)) => {
+            let file = read(rt, name.as_str()).ok()?;
+            bytes.extend_from_slice(file.bytes.as_slice()).ok()
+        }
+        (ScriptPart::File(_), None) => None,
     }
-    Ok(true)
 }
 
 // The base that the words give is told of where no policy may have it: the policy's own may be the one that is refused,
 // but then this one is the next.
-fn of_policy(
-    rt: &HostRuntime,
-    asked: &Asked<'_>,
-    error: PolicyError,
-) -> Result<Option<String>, Memory> {
-    let base = base_name(rt, base_of(asked))?;
-    if let Some(base) = &base
+fn of_policy(rt: &HostRuntime, asked: &Asked<'_>, error: PolicyError) -> Option<String> {
+    let base = base_name(rt, base_of(asked)).ok()?;
+    if let Some(base) = text_of(&base)
         && error.code == PolicyError::BASE
-        && !Policy::may_have(base.as_str().as_bytes())
+        && !Policy::may_have(base.as_bytes())
     {
-        return Ok(Some(of_base(rt, base.as_str())?));
+        return of_base(rt, base);
     }
-    match policy_of(asked) {
-        Some(policy) => {
-            let note = format!(in rt.alloc(); "`awkbox lint --policy {policy}` tells more")?;
-            Ok(Some(note))
-        }
-        None => Ok(None),
-    }
+    let policy = policy_of(asked)?;
+    format!(in rt.alloc(); "`awkbox lint --policy {policy}` tells more").ok()
 }
 
-fn of_base(rt: &HostRuntime, base: &str) -> Result<String, Memory> {
+fn of_base(rt: &HostRuntime, base: &str) -> Option<String> {
     format!(in rt.alloc();
         "a base is an absolute path without `*`, `?` and `..`; `--base` gives `{base}`"
-    )
+    ).ok()
 }
 
 // Of the `-v` pair of this number, counted from 1.
-fn of_assignment(rt: &HostRuntime, asked: &Asked<'_>, pair: u32) -> Result<Option<String>, Memory> {
+fn of_assignment(rt: &HostRuntime, asked: &Asked<'_>, pair: u32) -> Option<String> {
     let Asked::Run(run) = asked else {
-        return Ok(None);
+        return None;
     };
-    match run.assigns.as_slice().get(pair.saturating_sub(1) as usize) {
-        Some(words) => {
-            let note = format!(in rt.alloc();
-                "`-v {words}` is not NAME=VALUE with the name of a variable"
-            )?;
-            Ok(Some(note))
-        }
-        None => Ok(None),
-    }
+    let words = run.assigns.as_slice().get(pair.saturating_sub(1) as usize)?;
+    format!(in rt.alloc(); "`-v {words}` is not NAME=VALUE with the name of a variable").ok()
 }
 
-fn of_unread(rt: &HostRuntime, asked: &Asked<'_>, files: &Files) -> Result<Option<String>, Memory> {
-    let policy = policy_of(asked).and_then(|name| unread(rt, name));
+fn of_unread(rt: &HostRuntime, asked: &Asked<'_>, files: &Files) -> Option<String> {
+    let policy = unread_of(rt, policy_of(asked));
     let script = unread_part(rt, files.script.as_slice());
-    let log = files
-        .log
-        .as_ref()
-        .and_then(|name| unread(rt, name.as_str()));
-    match policy.or(script).or(log) {
-        Some(words) => Ok(Some(String::from_str(rt.alloc(), words)?)),
-        None => Ok(None),
+    let log = unread_of(rt, text_of(&files.log));
+    String::from_str(rt.alloc(), policy.or(script).or(log)?).ok()
+}
+
+fn text_of(name: &Option<PathBuf>) -> Option<&str> {
+    match name {
+        Some(name) => Some(name.as_str()),
+        None => None,
     }
 }
 
 // Why the first of these files that can't be read cannot be.
 fn unread_part(rt: &HostRuntime, files: &[Option<PathBuf>]) -> Option<&'static str> {
     for file in files {
-        if let Some(name) = file {
-            if let Some(words) = unread(rt, name.as_str()) {
-                return Some(words);
-            }
+        if let Some(words) = unread_of(rt, text_of(file)) {
+            return Some(words);
         }
     }
     None
 }
 
-// Why the file of this name cannot be read, if it can't. Nothing is told of the standard input.
-fn unread(rt: &HostRuntime, name: &str) -> Option<&'static str> {
+// Why this file cannot be read, if it can't. Nothing is told of the standard input.
+fn unread_of(rt: &HostRuntime, name: Option<&str>) -> Option<&'static str> {
+    let name = name?;
     if name == STANDARD_INPUT {
         return None;
     }
     match metadata(rt, name) {
         Ok(metadata) if metadata.is_dir() => Some("it is a folder"),
         Ok(metadata) if metadata.len() > MOST_BYTES as u64 => Some("it has over 16 MiB"),
-        Ok(_) => File::open(rt, name).err().map(|error| words_of(&error)),
+        Ok(_) => unopened_file(rt, name),
+        Err(error) => Some(words_of(&error)),
+    }
+}
+
+// Why the system does not open this file, if it does not.
+fn unopened_file(rt: &HostRuntime, name: &str) -> Option<&'static str> {
+    match File::open(rt, name) {
+        Ok(_) => None,
         Err(error) => Some(words_of(&error)),
     }
 }
@@ -238,7 +234,7 @@ pub fn tell_of_operands(rt: &HostRuntime, asked: &Asked<'_>, files: &Files, stat
     let (Asked::Run(_), PASSED_OVER) = (asked, status) else {
         return;
     };
-    let Ok(log) = last_lines(rt, files) else {
+    let Some(log) = last_lines(rt, files) else {
         return;
     };
     // the words are read once more, since the run has those of before
@@ -246,33 +242,26 @@ pub fn tell_of_operands(rt: &HostRuntime, asked: &Asked<'_>, files: &Files, stat
         return;
     };
     for operand in words.operands.as_slice() {
-        if let Ok(Some(note)) = of_operand(rt, log.as_slice(), operand.bytes()) {
+        if let Some(note) = of_operand(rt, log.as_slice(), operand.bytes()) {
             let _ = eprintln!(rt; "awkbox: note: {note}");
         }
     }
 }
 
-fn last_lines(rt: &HostRuntime, files: &Files) -> Result<Vec<u8>, Memory> {
+fn last_lines(rt: &HostRuntime, files: &Files) -> Option<Vec<u8>> {
     match &files.log {
-        Some(log) => last_bytes(rt, log.as_str()),
-        None => Ok(Vec::new(rt.alloc())),
+        Some(log) => last_bytes(rt, log.as_str()).ok(),
+        None => Some(Vec::new(rt.alloc())),
     }
 }
 
 // An operand is denied where the log has its line, and cannot be opened where the system says so.
-fn of_operand(rt: &HostRuntime, log: &[u8], operand: &[u8]) -> Result<Option<String>, Memory> {
-    if let Some(line) = denied(rt.alloc(), log, operand)? {
-        return Ok(Some(format!(in rt.alloc();
-            "the policy denies an operand; the log has: {line}"
-        )?));
+fn of_operand(rt: &HostRuntime, log: &[u8], operand: &[u8]) -> Option<String> {
+    if let Some(line) = denied(rt.alloc(), log, operand).ok()? {
+        return format!(in rt.alloc(); "the policy denies an operand; the log has: {line}").ok();
     }
-    let Ok(name) = std::str::from_utf8(operand) else {
-        return Ok(None);
-    };
-    match unopened(rt, name) {
-        Some(words) => Ok(Some(told_of(rt.alloc(), operand, words)?)),
-        None => Ok(None),
-    }
+    let name = std::str::from_utf8(operand).ok()?;
+    told_of(rt.alloc(), operand, unopened(rt, name)?).ok()
 }
 
 // Why the operand cannot be opened, if it can't. One that sets a variable, or is the standard input, is no file. What
@@ -283,9 +272,7 @@ fn unopened(rt: &HostRuntime, name: &str) -> Option<&'static str> {
     }
     match metadata(rt, name) {
         Ok(metadata) if metadata.is_dir() => Some("it is a folder"),
-        Ok(metadata) if metadata.is_file() => File::open(rt, name)
-            .err()
-            .map(|error| words_of(&error)),
+        Ok(metadata) if metadata.is_file() => unopened_file(rt, name),
         Ok(_) => None,
         Err(error) => Some(words_of(&error)),
     }
@@ -300,17 +287,15 @@ fn words_of(error: &Error) -> &'static str {
 }
 
 // An output that cannot be written was denied, where the last line of the log has its place.
-fn of_unwritten(rt: &HostRuntime, files: &Files, place: Place) -> Result<Option<String>, Memory> {
-    let Some(log) = &files.log else {
-        return Ok(None);
-    };
-    let bytes = last_bytes(rt, log.as_str())?;
-    let begins = format!(in rt.alloc(); "{}:{} ", place.line, place.column)?;
+fn of_unwritten(rt: &HostRuntime, files: &Files, place: Place) -> Option<String> {
+    let log = text_of(&files.log)?;
+    let bytes = last_bytes(rt, log).ok()?;
+    let begins = format!(in rt.alloc(); "{}:{} ", place.line, place.column).ok()?;
     match last_line(bytes.as_slice()) {
         Some(line) if line.starts_with(begins.as_str()) => {
-            Ok(Some(format!(in rt.alloc(); "the policy denies it; the log has: {line}")?))
+            format!(in rt.alloc(); "the policy denies it; the log has: {line}").ok()
         }
-        _ => Ok(Some(String::from_str(rt.alloc(), "no rule denies it: the system refuses it")?)),
+        _ => String::from_str(rt.alloc(), "no rule denies it: the system refuses it").ok(),
     }
 }
 

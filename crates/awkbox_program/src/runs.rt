@@ -3,14 +3,14 @@ ghost use Rattle.awk_parse.specs.Scripts.{IsScript};
 ghost use Rattle.std.specs.Prelude.{IfOk};
 
 use crate::files::{OpenLog, ReadFile, look, read};
-use crate::folders::{Folders, base_bytes, base_name, enter, resolved};
+use crate::folders::{Folders, enter, resolved};
 use crate::scripts::{ReadScript, line_of, look_parts, place_in, place_of, read_script};
 use crate::setup::setup_of;
 use crate::standard;
 use awk_sources::{InSource, Lines};
 use awkbox::{
     Account, Ending, Fault, Identity, LimitedLog, LogEnd, Memory, Message, Octets, OsWorld,
-    Outcome, OwnFile, Place, Policy, Prepared, Refusal, Report, Setup, Warning, may_be_log,
+    Outcome, OwnFile, Place, Policy, Prepared, Ran, Refusal, Report, Setup, Warning, may_be_log,
     may_start, prepare, writing_rule,
 };
 use awkbox_options::{Run, STANDARD_INPUT, ScriptPart};
@@ -97,20 +97,24 @@ fn open_report(
     operands: &[Octets],
 ) -> Result<ReportFile, Message> {
     let opened = open_log(rt, name)?;
+    let others = beside_report(rt, run, operands)?;
+    let identity = opened.identity;
+    let file = claim(rt, name, opened, others.as_slice(), false)?;
+    Ok(ReportFile { identity, file })
+}
+
+fn beside_report(
+    rt: &HostRuntime,
+    run: &Run<'_>,
+    operands: &[Octets],
+) -> Result<Vec<Identity>, Memory> {
+    let script = look_parts(rt, run.script.as_slice())?;
     let named = [
         look_source(rt, run.policy),
         look(rt, run.log),
         look_audit(rt, run),
     ];
-    let script = look_parts(rt, run.script.as_slice())?;
-    let beside = Beside {
-        named,
-        script: script.as_slice(),
-        operands,
-    };
-    let identity = opened.identity;
-    let file = claim(rt, name, opened, &beside, false)?;
-    Ok(ReportFile { identity, file })
+    others(rt, script.as_slice(), named.as_slice(), operands)
 }
 
 // Whether the account stands whole in the file.
@@ -139,47 +143,56 @@ fn account_place(account: &Account) -> Option<Place> {
     }
 }
 
-// The account as a JSON object. Of a script of several parts it has the one that it is about.
+// The account as a JSON object.
 fn account_text(
     rt: &HostRuntime,
     account: &Account,
     lines: &Option<Lines>,
 ) -> Result<String, Memory> {
-    let alloc = rt.alloc();
-    let mut value = account.value(alloc)?;
-    if let Some(found) = account_place(account).and_then(|place| place_in(lines, place)) {
-        add_source(alloc, &mut value, &found)?;
-        if let Account::Refused(message) = account {
-            let line = line_of(alloc, message, lines)?;
-            add_member(
-                alloc,
-                &mut value,
-                "refusal",
-                Value::try_from_str(alloc, line.as_str())?,
-            )?;
-        }
-    }
-    value.to_string(alloc)
+    let mut value = account.value(rt.alloc())?;
+    tell_source(rt.alloc(), &mut value, account, lines)?;
+    value.to_string(rt.alloc())
 }
 
-fn add_source(alloc: Global, value: &mut Value, found: &InSource<'_>) -> Result<(), Memory> {
-    let source = json!(in alloc; {
+// Of a script of several parts an account has the one that it is about.
+fn tell_source(
+    alloc: Global,
+    value: &mut Value,
+    account: &Account,
+    lines: &Option<Lines>,
+) -> Result<(), Memory> {
+    let Some(found) = place_in(lines, account_place(account)) else {
+        return Ok(());
+    };
+    set_member(alloc, value, "source", source_value(alloc, &found)?)?;
+    match account {
+        Account::Ran { .. } => Ok(()),
+        Account::Refused(message) => {
+            set_member(alloc, value, "refusal", line_value(alloc, message, lines)?)
+        }
+    }
+}
+
+fn source_value(alloc: Global, found: &InSource<'_>) -> Result<Value, Memory> {
+    json!(in alloc; {
         "column": found.place.column,
         "line": found.place.line,
         "name": found.name,
-    })?;
-    add_member(alloc, value, "source", source)
+    })
 }
 
-fn add_member(alloc: Global, value: &mut Value, name: &str, member: Value) -> Result<(), Memory> {
+fn line_value(alloc: Global, message: &Message, lines: &Option<Lines>) -> Result<Value, Memory> {
+    let line = line_of(alloc, message, lines)?;
+    Value::try_from_str(alloc, line.as_str())
+}
+
+fn set_member(alloc: Global, value: &mut Value, name: &str, member: Value) -> Result<(), Memory> {
     if let Value::Object(members) = value {
         members.insert(String::from_str(alloc, name)?, member)?;
     }
     Ok(())
 }
 
-// Each of the functions from here to `run_logged` makes a large value and lends it to the next one, so that it is let
-// go in one place.
 fn account_of(
     rt: &HostRuntime,
     run: &Run<'_>,
@@ -187,36 +200,34 @@ fn account_of(
     report: Option<Identity>,
     lines: &mut Option<Lines>,
 ) -> Account {
-    match setup_of(rt, run, operands) {
-        Ok(setup) => account_under(rt, run, &setup, report, lines),
+    match run_set_up(rt, run, operands, report, lines) {
+        Ok(account) => account,
         Err(message) => Account::Refused(message),
     }
 }
 
-fn account_under(
+// Each of the functions from here to `run_logged` makes a large value and lends it to the next one, or hands it on, so
+// that it is let go in one place.
+fn run_set_up(
+    rt: &HostRuntime,
+    run: &Run<'_>,
+    operands: Vec<Octets>,
+    report: Option<Identity>,
+    lines: &mut Option<Lines>,
+) -> Result<Account, Message> {
+    let setup = setup_of(rt, run, operands)?;
+    run_read(rt, run, &setup, report, lines)
+}
+
+fn run_read(
     rt: &HostRuntime,
     run: &Run<'_>,
     setup: &Setup,
     report: Option<Identity>,
     lines: &mut Option<Lines>,
-) -> Account {
-    match read_sources(rt, run, lines) {
-        Ok(sources) => account_from(rt, run, setup, &sources, report),
-        Err(message) => Account::Refused(message),
-    }
-}
-
-fn account_from(
-    rt: &HostRuntime,
-    run: &Run<'_>,
-    setup: &Setup,
-    sources: &Sources,
-    report: Option<Identity>,
-) -> Account {
-    match run_sources(rt, run, setup, sources, report) {
-        Ok(account) => account,
-        Err(message) => Account::Refused(message),
-    }
+) -> Result<Account, Message> {
+    let sources = read_sources(rt, run, lines)?;
+    run_sources(rt, run, setup, &sources, report)
 }
 
 fn read_sources(
@@ -238,13 +249,8 @@ fn run_sources(
     report: Option<Identity>,
 ) -> Result<Account, Message> {
     let opened = open_logs(rt, run)?;
-    let folders = enter(rt, run.folder)?;
-    let beside = Beside {
-        named: [sources.policy.identity, report, None],
-        script: sources.script.identities.as_slice(),
-        operands: setup.operands(),
-    };
-    let logs = claim_logs(rt, run, opened, &beside)?;
+    let folders = enter(rt, run.folder, run.base)?;
+    let logs = claim_beside(rt, run, setup, sources, report, opened)?;
     run_logged(rt, run, setup, sources, &folders, logs)
 }
 
@@ -255,10 +261,12 @@ struct OpenLogs {
     audit: Option<OpenLog>,
 }
 
+type Log = LimitedLog<File>;
+
 #[derive(Drop)]
 struct Logs {
-    denials: LimitedLog<File>,
-    audit: Option<LimitedLog<File>>,
+    denials: Log,
+    audit: Option<Log>,
 }
 
 fn open_logs(rt: &HostRuntime, run: &Run<'_>) -> Result<OpenLogs, Message> {
@@ -277,47 +285,45 @@ fn open_log(rt: &HostRuntime, name: &str) -> Result<OpenLog, Message> {
     }
 }
 
-// The files that a log or a report is not to be: these and those of the script, and those that the operands name.
-#[derive(Clone, Copy, Drop)]
-struct Beside<'a> {
-    named: [Option<Identity>; 3],
-    script: &'a [Identity],
-    operands: &'a [Octets],
+// Neither log may be one of the files that the run is given.
+fn claim_beside(
+    rt: &HostRuntime,
+    run: &Run<'_>,
+    setup: &Setup,
+    sources: &Sources,
+    report: Option<Identity>,
+    opened: OpenLogs,
+) -> Result<Logs, Message> {
+    let named = [sources.policy.identity, report];
+    let script = sources.script.identities.as_slice();
+    let others = others(rt, script, named.as_slice(), setup.operands())?;
+    claim_logs(rt, run, opened, others.as_slice())
 }
 
-impl<'a> Beside<'a> {
-    // The last of the files that are named is free for one more.
-    fn and(&self, file: Option<Identity>) -> Beside<'a> {
-        Beside {
-            named: [self.named[0], self.named[1], file],
-            script: self.script,
-            operands: self.operands,
-        }
-    }
-}
-
-// Neither may be the other one, nor one of these files.
+// Nor may they be one file.
 fn claim_logs(
     rt: &HostRuntime,
     run: &Run<'_>,
     opened: OpenLogs,
-    beside: &Beside<'_>,
+    others: &[Identity],
 ) -> Result<Logs, Message> {
+    if !are_apart(&opened) {
+        return Err(Message::cannot_write(rt.alloc(), run.log));
+    }
     let OpenLogs { denials, audit } = opened;
-    let beside_audit = beside.and(Some(denials.identity));
-    let beside_log = beside.and(audit_identity(&audit));
-    let log = claim(rt, run.log, denials, &beside_log, run.adds_to_log)?;
-    let audit = claim_audit(rt, run, audit, &beside_audit)?;
+    let log = claim(rt, run.log, denials, others, run.adds_to_log)?;
+    let audit = claim_audit(rt, run, audit, others)?;
     Ok(Logs {
         denials: LimitedLog::new(log, run.log_limit),
         audit,
     })
 }
 
-fn audit_identity(audit: &Option<OpenLog>) -> Option<Identity> {
-    match audit {
-        Some(opened) => Some(opened.identity),
-        None => None,
+fn are_apart(opened: &OpenLogs) -> bool {
+    let log = &opened.denials;
+    match &opened.audit {
+        Some(audit) => may_be_log(log.identity, log.is_regular, [audit.identity].as_slice()),
+        None => true,
     }
 }
 
@@ -325,15 +331,14 @@ fn claim_audit(
     rt: &HostRuntime,
     run: &Run<'_>,
     audit: Option<OpenLog>,
-    beside: &Beside<'_>,
-) -> Result<Option<LimitedLog<File>>, Message> {
-    let Some(name) = run.audit else {
-        return Ok(None);
-    };
+    others: &[Identity],
+) -> Result<Option<Log>, Message> {
     let Some(opened) = audit else {
         return Ok(None);
     };
-    let file = claim(rt, name, opened, beside, false)?;
+    // it is open under the name that the words give
+    let name = run.audit.unwrap_or("");
+    let file = claim(rt, name, opened, others, false)?;
     Ok(Some(LimitedLog::new(file, run.log_limit)))
 }
 
@@ -345,50 +350,81 @@ fn run_logged(
     folders: &Folders,
     logs: Logs,
 ) -> Result<Account, Message> {
-    let alloc = rt.alloc();
     let host = rt.clone()?;
-    let policy = sources.policy.bytes.as_slice();
-    let script = sources.script.bytes.as_slice();
-    let base = base_name(rt, run.base)?;
-    let prepared = prepare(alloc, policy, script, setup)?;
-    let prepared = under(alloc, prepared, base_bytes(&base))?;
-    if let Err(message) = begin(rt, run, prepared.policy(), folders) {
-        prepared.release();
-        return Err(message);
+    match begun(rt, run, setup, sources, folders) {
+        Ok(prepared) => Ok(driven(rt, run, setup, prepared, host, logs)),
+        Err(message) => Err(message),
     }
-    let world = OsWorld::new(host);
-    Ok(if run.is_block_buffered {
-        run_in_blocks(rt, run, setup, prepared, world, logs)
-    } else {
-        run_at_once(rt, run, setup, prepared, world, logs)
-    })
 }
 
-// The same under this base, where one is given.
-fn under(alloc: Global, prepared: Prepared, base: Option<&[u8]>) -> Result<Prepared, Refusal>
-    requires { IsScript prepared.script }
+// What the run goes by, where it may begin.
+fn begun(
+    rt: &HostRuntime,
+    run: &Run<'_>,
+    setup: &Setup,
+    sources: &Sources,
+    folders: &Folders,
+) -> Result<Prepared, Message>
     ensures { IfOk result (λ prepared. IsScript prepared.script) }
 {
-    match base {
-        Some(base) => prepared.with_base(alloc, base),
-        None => Ok(prepared),
+    match prepared_under(rt.alloc(), sources, setup, folders.base()) {
+        Ok(prepared) => match begin(rt, run, prepared.policy(), folders) {
+            Ok(()) => Ok(prepared),
+            Err(message) => {
+                prepared.release();
+                Err(message)
+            }
+        },
+        Err(refusal) => Err(Message::from(refusal)),
     }
 }
 
-// A run of which each print is written at once.
-fn run_at_once(
+// What the texts say, under this base where one is given.
+fn prepared_under(
+    alloc: Global,
+    sources: &Sources,
+    setup: &Setup,
+    base: Option<&[u8]>,
+) -> Result<Prepared, Refusal>
+    ensures { IfOk result (λ prepared. IsScript prepared.script) }
+{
+    let policy = sources.policy.bytes.as_slice();
+    let script = sources.script.bytes.as_slice();
+    match base {
+        Some(base) => prepare(alloc, policy, script, setup)?.with_base(alloc, base),
+        None => prepare(alloc, policy, script, setup),
+    }
+}
+
+// The run itself, whose prints are written at once or in blocks.
+fn driven(
     rt: &HostRuntime,
     run: &Run<'_>,
     setup: &Setup,
     prepared: Prepared,
-    world: OsWorld,
+    host: HostRuntime,
     logs: Logs,
 ) -> Account
     requires { IsScript prepared.script }
 {
     let Logs { denials, audit } = logs;
-    let world = Watched::new(rt.alloc(), world, audit);
-    let ran = prepared.drive(rt.alloc(), setup, run.steps, world, denials);
+    let world = OsWorld::new(host);
+    if run.is_block_buffered {
+        let world = Watched::new(rt.alloc(), Buffered::new(rt.alloc(), world), audit);
+        ended_in_blocks(
+            rt,
+            prepared.drive(rt.alloc(), setup, run.steps, world, denials),
+        )
+    } else {
+        let world = Watched::new(rt.alloc(), world, audit);
+        ended(
+            rt,
+            prepared.drive(rt.alloc(), setup, run.steps, world, denials),
+        )
+    }
+}
+
+fn ended(rt: &HostRuntime, ran: Ran<Watched<OsWorld, Log>, Log>) -> Account {
     tell_of_audit(rt, ran.world.log_end());
     Account::Ran {
         report: ran.report,
@@ -397,20 +433,7 @@ fn run_at_once(
     }
 }
 
-// A run whose prints are written in blocks.
-fn run_in_blocks(
-    rt: &HostRuntime,
-    run: &Run<'_>,
-    setup: &Setup,
-    prepared: Prepared,
-    world: OsWorld,
-    logs: Logs,
-) -> Account
-    requires { IsScript prepared.script }
-{
-    let Logs { denials, audit } = logs;
-    let world = Watched::new(rt.alloc(), Buffered::new(rt.alloc(), world), audit);
-    let ran = prepared.drive(rt.alloc(), setup, run.steps, world, denials);
+fn ended_in_blocks(rt: &HostRuntime, ran: Ran<Watched<Buffered<OsWorld>, Log>, Log>) -> Account {
     tell_of_audit(rt, ran.world.log_end());
     let (world, _) = ran.world.into_parts();
     let (written, _) = world.finish();
@@ -468,24 +491,30 @@ fn look_source(rt: &HostRuntime, name: &str) -> Option<Identity> {
 
 // The files that are not to be the log, the audit or the report: these, those that the standard streams lead to and
 // those that the operands name. A word that may set a variable counts as the name of a file too.
-fn others(rt: &HostRuntime, beside: &Beside<'_>) -> Result<Vec<Identity>, Memory> {
-    let mut others = Vec::from_slice(rt.alloc(), beside.script)?;
-    for file in beside.named {
-        if let Some(file) = file {
-            others.push(file)?;
-        }
+fn others(
+    rt: &HostRuntime,
+    script: &[Identity],
+    named: &[Option<Identity>],
+    operands: &[Octets],
+) -> Result<Vec<Identity>, Memory> {
+    let mut others = Vec::from_slice(rt.alloc(), script)?;
+    for file in named {
+        add(&mut others, *file)?;
     }
-    for stream in standard::STREAMS {
-        if let Some(file) = look(rt, stream) {
-            others.push(file)?;
-        }
+    for stream in standard::STREAMS.as_slice() {
+        add(&mut others, look(rt, stream))?;
     }
-    for operand in beside.operands {
-        if let Some(file) = look_operand(rt, operand.bytes()) {
-            others.push(file)?;
-        }
+    for operand in operands {
+        add(&mut others, look_operand(rt, operand.bytes()))?;
     }
     Ok(others)
+}
+
+fn add(files: &mut Vec<Identity>, file: Option<Identity>) -> Result<(), Memory> {
+    match file {
+        Some(file) => Ok(files.push(file)?),
+        None => Ok(()),
+    }
 }
 
 // One that is no text is denied, and so never opened.
@@ -496,17 +525,16 @@ fn look_operand(rt: &HostRuntime, operand: &[u8]) -> Option<Identity> {
     }
 }
 
-// The file of this name for the lines of a log or a report, where it is none of the files that are named or that the
-// standard streams and the operands lead to. One that is refused stays as it was.
+// The file of this name for the lines of a log or a report, where it is none of these. One that is refused stays as it
+// was.
 fn claim(
     rt: &HostRuntime,
     name: &str,
     opened: OpenLog,
-    beside: &Beside<'_>,
+    others: &[Identity],
     is_kept: bool,
 ) -> Result<File, Message> {
-    let others = others(rt, beside)?;
-    if may_be_log(opened.identity, opened.is_regular, others.as_slice()) {
+    if may_be_log(opened.identity, opened.is_regular, others) {
         if let Ok(file) = opened.begin(is_kept) {
             return Ok(file);
         }

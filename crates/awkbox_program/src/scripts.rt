@@ -1,7 +1,7 @@
 // The script: one file, or several files and texts as one.
 use crate::files::{MOST_BYTES, ReadFile, look, read_up_to};
 use awk_sources::{InSource, Lines, Source, joined};
-use awkbox::{Fault, Identity, Memory, Message, Place, ReadError};
+use awkbox::{Identity, Memory, Message, Place, ReadError};
 use awkbox_options::{STANDARD_INPUT, ScriptPart};
 use std::alloc::Global;
 
@@ -82,6 +82,19 @@ impl Reading {
     }
 }
 
+fn read_parts(rt: &HostRuntime, parts: &[ScriptPart<'_>]) -> Result<Reading, Message> {
+    let mut reading = Reading {
+        sources: Vec::new(rt.alloc()),
+        identities: Vec::new(rt.alloc()),
+        texts: 0,
+        left: Some(MOST_BYTES),
+    };
+    for part in parts {
+        reading.take(rt, part)?;
+    }
+    Ok(reading)
+}
+
 /// Reads the parts of a script as one, which may not be too long, and sets whose its lines are, also where they are
 /// refused.
 pub fn read_script(
@@ -89,23 +102,13 @@ pub fn read_script(
     parts: &[ScriptPart<'_>],
     lines: &mut Option<Lines>,
 ) -> Result<ReadScript, Message> {
-    let alloc = rt.alloc();
-    let mut reading = Reading {
-        sources: Vec::new(alloc),
-        identities: Vec::new(alloc),
-        texts: 0,
-        left: Some(MOST_BYTES),
-    };
-    for part in parts {
-        reading.take(rt, part)?;
-    }
     let Reading {
         sources,
         identities,
         ..
-    } = reading;
-    *lines = Some(Lines::of(alloc, sources.as_slice())?);
-    match joined(alloc, sources) {
+    } = read_parts(rt, parts)?;
+    *lines = Some(Lines::of(rt.alloc(), sources.as_slice())?);
+    match joined(rt.alloc(), sources) {
         Ok(bytes) => Ok(ReadScript { identities, bytes }),
         Err(error) => Err(Message::Script(error)),
     }
@@ -130,9 +133,9 @@ fn look_part(rt: &HostRuntime, part: &ScriptPart<'_>) -> Option<Identity> {
 }
 
 /// In which of several parts a place is; nowhere, where there is one part alone.
-pub fn place_in(lines: &Option<Lines>, place: Place) -> Option<InSource<'_>> {
+pub fn place_in(lines: &Option<Lines>, place: Option<Place>) -> Option<InSource<'_>> {
     match lines {
-        Some(lines) if lines.are_several() => lines.place_in(place),
+        Some(lines) if lines.are_several() => lines.place_in(place?),
         _ => None,
     }
 }
@@ -148,18 +151,23 @@ pub fn place_of(message: &Message) -> Option<Place> {
 
 /// The line of a message, which of several parts names the one that it is about.
 pub fn line_of(alloc: Global, message: &Message, lines: &Option<Lines>) -> Result<String, Memory> {
-    let found = place_of(message).and_then(|place| place_in(lines, place));
-    match (message, found) {
-        (Message::Script(error), Some(found)) => {
-            let code = error.code;
-            format!(in alloc; "awkbox: script {found} S{code}")
-        }
-        (Message::Fault(fault, _), Some(found)) => line_of_fault(alloc, *fault, &found),
-        _ => format!(in alloc; "{message}"),
+    match place_in(lines, place_of(message)) {
+        Some(found) => line_at(alloc, message, &found),
+        None => format!(in alloc; "{message}"),
     }
 }
 
-fn line_of_fault(alloc: Global, fault: Fault, found: &InSource<'_>) -> Result<String, Memory> {
-    let (code, text) = (fault.code(), fault.text());
-    format!(in alloc; "awkbox: {found} F{code} {text}")
+fn line_at(alloc: Global, message: &Message, found: &InSource<'_>) -> Result<String, Memory> {
+    match message {
+        Message::Script(error) => {
+            let code = error.code;
+            format!(in alloc; "awkbox: script {found} S{code}")
+        }
+        Message::Fault(fault, _) => {
+            let (code, text) = (fault.code(), fault.text());
+            format!(in alloc; "awkbox: {found} F{code} {text}")
+        }
+        // no other one is about a place
+        _ => format!(in alloc; "{message}"),
+    }
 }

@@ -64,28 +64,24 @@ fn rule_value(policy: &Policy, site: &Site) -> Value
 fn site_value(alloc: Global, site: &Site) -> Result<Value, Memory>
     ensures { IfOk result (λ value. view value ≡ spec.site_data site.now) }
 {
-    let text = text_value(alloc, &site.text)?;
     json!(in alloc; {
         "column": site.place.column,
         "kind": kind_word(site.kind),
         "line": site.place.line,
-        "text": text,
+        "text": text_value(alloc, &site.text)?,
     })
 }
 
 fn judged_value(alloc: Global, policy: &Policy, site: &Site) -> Result<Value, Memory>
     ensures { IfOk result (λ value. view value ≡ spec.judged_data policy.now site.now) }
 {
-    let text = text_value(alloc, &site.text)?;
-    let rule = rule_value(policy, site);
-    let verdict = verdict_word(outlook_of(policy, site));
     json!(in alloc; {
         "column": site.place.column,
         "kind": kind_word(site.kind),
         "line": site.place.line,
-        "rule": rule,
-        "text": text,
-        "verdict": verdict,
+        "rule": rule_value(policy, site),
+        "text": text_value(alloc, &site.text)?,
+        "verdict": verdict_word(outlook_of(policy, site)),
     })
 }
 
