@@ -1,5 +1,5 @@
 // What an expression does that is a statement by itself, or a part of a `for`: nothing wants its value.
-ghost use Rattle.awk_forms.specs.Runs.{Tells, IsUnwanted, whole_of};
+ghost use Rattle.awk_forms.specs.Runs.{Yields, IsUnwanted, whole_of};
 ghost use Rattle.awk_machine.specs.Forms.{value};
 ghost use Rattle.awk_program.specs.Program as p;
 ghost use Rattle.awk_program.specs.View.{Names, variable_of, view};
@@ -60,7 +60,7 @@ fn ready_effect<W: World, E: Evaluates<W>>(
 ) -> Result<(), Halt>
     requires can { E.can on }
     requires owns { Owns (W.open_numbers world.old) run.old.streams }
-    ensures { Tells W.World cx.now (λ g. value (view (names_in g) e.now)) IsUnwanted
+    ensures { Yields W.World cx.now (λ g. value (view (names_in g) e.now)) IsUnwanted
         (whole_of run.old) world.old result (whole_of run.new) world.new }
 {
     let is_done = done_at_once(cx.alloc, &mut run.store, &mut run.line, e);
@@ -81,7 +81,7 @@ pub fn effect<W: World, E: Evaluates<W>>(
 ) -> Result<(), Halt>
     requires can { E.can on }
     requires owns { Owns (W.open_numbers world.old) run.old.streams }
-    ensures { Tells W.World cx.now (λ g. value (view (names_in g) e.now)) IsUnwanted
+    ensures { Yields W.World cx.now (λ g. value (view (names_in g) e.now)) IsUnwanted
         (whole_of run.old) world.old result (whole_of run.new) world.new }
 {
     split_for_assignment(&mut run.store, e)?;
@@ -100,7 +100,7 @@ fn later_effect<W: World, E: Evaluates<W>>(
 ) -> Result<(), Halt>
     requires can { E.can on }
     requires owns { Owns (W.open_numbers world.old) run.old.streams }
-    ensures { Tells W.World cx.now (λ g. value (view (names_in g) e.now)) IsUnwanted
+    ensures { Yields W.World cx.now (λ g. value (view (names_in g) e.now)) IsUnwanted
         (whole_of run.old) world.old result (whole_of run.new) world.new }
 {
     if let Some(set) = set_by_call(e) {
@@ -123,7 +123,7 @@ fn general_effect<W: World, E: Evaluates<W>>(
 ) -> Result<(), Halt>
     requires can { E.can on }
     requires owns { Owns (W.open_numbers world.old) run.old.streams }
-    ensures { Tells W.World cx.now (λ g. value (view (names_in g) e.now)) IsUnwanted
+    ensures { Yields W.World cx.now (λ g. value (view (names_in g) e.now)) IsUnwanted
         (whole_of run.old) world.old result (whole_of run.new) world.new }
 {
     let Some(below) = on.below(units_of(e)) else {

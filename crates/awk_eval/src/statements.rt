@@ -1,7 +1,7 @@
 // Statements.
 ghost use Rattle.std.specs.Prelude.{[], map, option_map};
 ghost use Rattle.awk_streams.specs.Tasks.{Owns};
-ghost use Rattle.awk_input.specs.Performs.{Performs};
+ghost use Rattle.awk_input.specs.MeetsWhole.{MeetsWhole};
 ghost use Rattle.awk_machine.specs.Pieces.{At, Do, Doing, Each, Start};
 ghost use Rattle.awk_machine.specs.State.{Given};
 ghost use Rattle.awk_program.specs.Program as p;
@@ -219,7 +219,7 @@ fn delete<W: World, E: Evaluates<W>>(
 fn jump<W: World>(which: Jump, run: &mut Run, world: &mut W) -> Result<Flow, Halt>
     requires { Owns (W.open_numbers world.old) run.old.streams }
     ensures task { (g : Given)
-        → Performs W.World g (At (Doing (p.jump which)) []) flows (whole_of run.old) world.old result (whole_of run.new)
+        → MeetsWhole W.World g (At (Doing (p.jump which)) []) flows (whole_of run.old) world.old result (whole_of run.new)
         world.new }
     ensures owns { Owns (W.open_numbers world.new) run.new.streams }
 {

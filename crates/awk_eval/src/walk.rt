@@ -5,7 +5,7 @@ ghost use Rattle.awk_streams.specs.Flows.{flows};
 ghost use Rattle.awk_eval.specs.Nests.{Nests};
 ghost use Rattle.awk_machine.specs.Forms.{value};
 ghost use Rattle.awk_machine.specs.Pieces.{Do, Each, Start, give};
-ghost use Rattle.awk_forms.specs.Runs.{Does, IsTruthOf, Tells, whole_of};
+ghost use Rattle.awk_forms.specs.Runs.{Does, IsTruthOf, Yields, whole_of};
 ghost use Rattle.awk_program.specs.View.{view, view_statement};
 ghost use Rattle.awk_store.specs.Wholes.{names_in};
 
@@ -179,7 +179,7 @@ pub fn truth_of<W: World>(
     world: &mut W,
 ) -> Result<bool, Halt>
     requires { Owns (W.open_numbers world.old) run.old.streams }
-    ensures { Tells W.World cx.now (λ g. value (view (names_in g) e.now)) IsTruthOf
+    ensures { Yields W.World cx.now (λ g. value (view (names_in g) e.now)) IsTruthOf
         (whole_of run.old) world.old result (whole_of run.new) world.new }
 {
     let here = Walk {

@@ -19,7 +19,7 @@ use Rattle.awk_text.specs.declared.value.Value.TheVariants as v
 use Rattle.box_world.specs.declared.world.World.{Ghosts}
 use Rattle.awk_machine.specs.Operators.{of_truth}
 use Rattle.awk_forms.specs.declared.context.Context.{Context}
-use Rattle.awk_forms.specs.Runs.{Does, Tells, IsNumberOf, IsTruthOf}
+use Rattle.awk_forms.specs.Runs.{Does, Yields, IsNumberOf, IsTruthOf}
 
 module _ {W : Type 0} {ghosts : Ghosts W} {g : Given} {p : Piece} {old mid : Whole} {w w' : W} where
   -- a move that changes nothing, by what agrees
@@ -121,7 +121,7 @@ truth_is false = refl
 -- a comparison that holds tells of its value that it is true
 module _ {W : Type 0} {ghosts : Ghosts W} {cx : Context} {p : Given → Piece} {old new : Whole} {w w' : W} where
   as_truth-at : (r : Result Bool Halt) → Does ghosts cx p (λ g b. give (of_truth b)) old w r new w'
-      → Tells ghosts cx p IsTruthOf old w r new w'
+      → Yields ghosts cx p IsTruthOf old w r new w'
   as_truth-at (Ok b) h = record {
     val = of_truth b;
     is = truth_is b;
@@ -136,7 +136,7 @@ module _ {W : Type 0} {ghosts : Ghosts W} {cx : Context} {p : Given → Piece} {
   }
 
   pub as_truth : {r : Result Bool Halt} → Does ghosts cx p (λ g b. give (of_truth b)) old w r new w'
-      → Tells ghosts cx p IsTruthOf old w r new w'
+      → Yields ghosts cx p IsTruthOf old w r new w'
   as_truth {r = r} h = as_truth-at r h
 
 -- ---- what was done once the record was split

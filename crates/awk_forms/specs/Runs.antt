@@ -37,7 +37,7 @@ pub record Does {W A : Type 0} (ghosts : Ghosts W)
   pub owns : Owns (ghosts.open_numbers w') new.1
 
 -- the same of an answer that is no value, but tells of the value that is given what is wanted of it
-pub record Tells {W A : Type 0} (ghosts : Ghosts W)
+pub record Yields {W A : Type 0} (ghosts : Ghosts W)
     (cx : Context) (p : Given → Piece) (Is : A → Value → Type 0) (old : Whole) (w : W) (result : Result A Halt)
     (new : Whole) (w' : W) : Type 0 where
   pub val : Value

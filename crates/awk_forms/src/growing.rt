@@ -8,7 +8,7 @@ ghost use Rattle.awk_program.specs.Program.{joins_of};
 ghost use Rattle.awk_program.specs.View.{variable_of, view, view_joined};
 ghost use Rattle.awk_store.specs.Wholes.{names_in};
 ghost use Rattle.awk_text.specs.declared.value.Value.TheVariants as v;
-ghost use Rattle.awk_forms.specs.Runs.{Does, Tells, IsUnwanted, whole_of};
+ghost use Rattle.awk_forms.specs.Runs.{Does, Yields, IsUnwanted, whole_of};
 
 use crate::context::{Context, Run};
 use crate::evaluates::Evaluates;
@@ -59,7 +59,7 @@ pub(crate) fn put_longer<W: World, E: Evaluates<W>>(
 ) -> Result<(), Halt>
     requires can { E.can on }
     requires owns { Owns (W.open_numbers world.old) run.old.streams }
-    ensures { Tells W.World cx.now
+    ensures { Yields W.World cx.now
         (λ g. value (p.assign place (p.variable (variable_of (names_in g) variable)) (view (names_in g) x.now)))
         IsUnwanted
         (whole_of run.old) world.old result (whole_of run.new) world.new }

@@ -9,7 +9,7 @@ ghost use Rattle.awk_machine.specs.State.{Given};
 ghost use Rattle.awk_store.specs.Acts.{Passes};
 ghost use Rattle.awk_store.specs.Spots.{IsSpotOf, value_of};
 ghost use Rattle.awk_store.specs.Wholes.{names_in};
-ghost use Rattle.awk_forms.specs.Runs.{Does, Tells, IsUnwanted, whole_of};
+ghost use Rattle.awk_forms.specs.Runs.{Does, Yields, IsUnwanted, whole_of};
 ghost use Rattle.awk_machine.specs.Expressions.{either};
 ghost use Rattle.awk_program.specs.declared.operators.StepValue.{StepValue as Which};
 ghost use Rattle.awk_streams.specs.Tables.{Table};
@@ -162,7 +162,7 @@ pub fn put_variable<W: World, E: Evaluates<W>>(
 ) -> Result<(), Halt>
     requires can { E.can on }
     requires owns { Owns (W.open_numbers world.old) run.old.streams }
-    ensures { Tells W.World cx.now
+    ensures { Yields W.World cx.now
         (λ g. value (p.assign place (p.variable (variable_of (names_in g) variable)) (view (names_in g) x.now)))
         IsUnwanted
         (whole_of run.old) world.old result (whole_of run.new) world.new }
@@ -183,7 +183,7 @@ pub fn put<W: World, E: Evaluates<W>>(
 ) -> Result<(), Halt>
     requires can { E.can on }
     requires owns { Owns (W.open_numbers world.old) run.old.streams }
-    ensures { Tells W.World cx.now
+    ensures { Yields W.World cx.now
         (λ g. value (p.assign place (view_target (names_in g) target.now) (view (names_in g) x.now))) IsUnwanted
         (whole_of run.old) world.old result (whole_of run.new) world.new }
 {
@@ -213,7 +213,7 @@ fn alter_variable<W: World, E: Evaluates<W>>(
 ) -> Result<(), Halt>
     requires can { E.can on }
     requires owns { Owns (W.open_numbers world.old) run.old.streams }
-    ensures { Tells W.World cx.now
+    ensures { Yields W.World cx.now
         (λ g. value (p.change place how (p.variable (variable_of (names_in g) variable)) (view (names_in g) x.now)))
         IsUnwanted
         (whole_of run.old) world.old result (whole_of run.new) world.new }
@@ -237,7 +237,7 @@ pub fn alter<W: World, E: Evaluates<W>>(
 ) -> Result<(), Halt>
     requires can { E.can on }
     requires owns { Owns (W.open_numbers world.old) run.old.streams }
-    ensures { Tells W.World cx.now
+    ensures { Yields W.World cx.now
         (λ g. value (p.change place how (view_target (names_in g) target.now) (view (names_in g) x.now))) IsUnwanted
         (whole_of run.old) world.old result (whole_of run.new) world.new }
 {

@@ -1,5 +1,5 @@
 // What an expression is wanted for, where that is less than its value: its number, or its truth.
-ghost use Rattle.awk_forms.specs.Runs.{Does, Tells, IsNumberOf, IsTruthOf, whole_of};
+ghost use Rattle.awk_forms.specs.Runs.{Does, Yields, IsNumberOf, IsTruthOf, whole_of};
 ghost use Rattle.awk_machine.specs.Forms.{value};
 ghost use Rattle.awk_machine.specs.Operators.{of_truth};
 ghost use Rattle.awk_machine.specs.Pieces.{give};
@@ -34,7 +34,7 @@ pub fn number<W: World, E: Evaluates<W>>(
 ) -> Result<Result<i64, Fault>, Halt>
     requires can { E.can on }
     requires owns { Owns (W.open_numbers world.old) run.old.streams }
-    ensures { Tells W.World cx.now (λ g. value (view (names_in g) e.now)) IsNumberOf
+    ensures { Yields W.World cx.now (λ g. value (view (names_in g) e.now)) IsNumberOf
         (whole_of run.old) world.old result (whole_of run.new) world.new }
 {
     if let Some(known) = number_at_hand(&run.store, e, MOST_LEVELS) {
@@ -56,7 +56,7 @@ fn ready_truth<W: World, E: Evaluates<W>>(
 ) -> Result<bool, Halt>
     requires can { E.can on }
     requires owns { Owns (W.open_numbers world.old) run.old.streams }
-    ensures { Tells W.World cx.now (λ g. value (view (names_in g) e.now)) IsTruthOf
+    ensures { Yields W.World cx.now (λ g. value (view (names_in g) e.now)) IsTruthOf
         (whole_of run.old) world.old result (whole_of run.new) world.new }
 {
     if let Some(known) = truth_at_hand(&run.store, e) {
@@ -76,7 +76,7 @@ pub fn truth_of<W: World, E: Evaluates<W>>(
 ) -> Result<bool, Halt>
     requires can { E.can on }
     requires owns { Owns (W.open_numbers world.old) run.old.streams }
-    ensures { Tells W.World cx.now (λ g. value (view (names_in g) e.now)) IsTruthOf
+    ensures { Yields W.World cx.now (λ g. value (view (names_in g) e.now)) IsTruthOf
         (whole_of run.old) world.old result (whole_of run.new) world.new }
 {
     split_for_test(&mut run.store, e)?;
@@ -94,7 +94,7 @@ fn later_truth<W: World, E: Evaluates<W>>(
 ) -> Result<bool, Halt>
     requires can { E.can on }
     requires owns { Owns (W.open_numbers world.old) run.old.streams }
-    ensures { Tells W.World cx.now (λ g. value (view (names_in g) e.now)) IsTruthOf
+    ensures { Yields W.World cx.now (λ g. value (view (names_in g) e.now)) IsTruthOf
         (whole_of run.old) world.old result (whole_of run.new) world.new }
 {
     if let Expr::Pattern(place, text) = e {
@@ -120,7 +120,7 @@ fn general_truth<W: World, E: Evaluates<W>>(
 ) -> Result<bool, Halt>
     requires can { E.can on }
     requires owns { Owns (W.open_numbers world.old) run.old.streams }
-    ensures { Tells W.World cx.now (λ g. value (view (names_in g) e.now)) IsTruthOf
+    ensures { Yields W.World cx.now (λ g. value (view (names_in g) e.now)) IsTruthOf
         (whole_of run.old) world.old result (whole_of run.new) world.new }
 {
     let Some(below) = on.below(units_of(e)) else {

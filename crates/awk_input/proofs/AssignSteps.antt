@@ -33,7 +33,7 @@ use Rattle.awk_store.proofs.Slots.{differs}
 use Rattle.awk_streams.specs.declared.halt.Halt.{Halt}
 use Rattle.awk_streams.specs.Chains.{Leads, Meets}
 use Rattle.awk_streams.specs.Tables.{Table}
-use Rattle.awk_streams.specs.Tasks.{Answered, Refused, Tells, goes_on}
+use Rattle.awk_streams.specs.Tasks.{Answered, Refused, IsTable, goes_on}
 use Rattle.awk_streams.proofs.Asking.{fits_here}
 use Rattle.awk_streams.proofs.Chain.{Laws, asked, at_once, unanswered}
 use Rattle.awk_store.specs.Acts.{Acts}
@@ -143,7 +143,7 @@ denied_so name text k reply.Failed e = refl
 
 -- an assignment changes no stream
 tells_assigned : (g : Given) (operand name text : Text) (table : Table) (taken : Key → ℕ) (c : Course) (r : Reply)
-    → Tells table taken c → Tells table taken (with_event (operand_want g operand (Assigns name text)) r c)
+    → IsTable table taken c → IsTable table taken (with_event (operand_want g operand (Assigns name text)) r c)
 tells_assigned g operand name text table taken c r a = record {
   streams = a.streams;
   distinct = a.distinct;

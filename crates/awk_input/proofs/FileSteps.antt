@@ -33,7 +33,7 @@ use Rattle.awk_streams.specs.declared.getline.NextRecord.{NextRecord}
 use Rattle.awk_streams.specs.declared.halt.Halt.{Halt}
 use Rattle.awk_streams.specs.Chains.{Leads, Meets}
 use Rattle.awk_streams.specs.Tables.{Table, Entry, entries_without, find_input, open_of, with_input}
-use Rattle.awk_streams.specs.Tasks.{Answered, Refused, Opening, IsRead, IsSame, Owns, Tells, beside, goes_on, input_at}
+use Rattle.awk_streams.specs.Tasks.{Answered, Refused, Opening, IsRead, IsSame, Owns, IsTable, beside, goes_on, input_at}
 use Rattle.awk_streams.specs.Tasks.{number_opened}
 use Rattle.awk_streams.proofs.Asking.{fits_here, number_at}
 use Rattle.awk_streams.proofs.Chain.{Laws, asked, at_once, changes, done as finished, turned, unanswered}
@@ -46,7 +46,7 @@ use Rattle.awk_store.proofs.Acting.{at_rest, alters, done}
 use Rattle.awk_input.specs.Hosts.{Hosted, IsHost, is_given}
 use Rattle.awk_input.specs.Operands.{IsBut, Moves, begun_or, current_key, opening_of}
 use Rattle.awk_input.specs.Inputs.{found_main}
-use Rattle.awk_input.specs.Performs.{LeadsOn, Performs}
+use Rattle.awk_input.specs.MeetsWhole.{LeadsWhole, MeetsWhole}
 use Rattle.awk_input.proofs.MainSteps.{main_agrees}
 use Rattle.awk_input.proofs.Opening.{fresh, tells_opening, tells_same}
 use Rattle.awk_input.proofs.Restored.{restored}
@@ -223,18 +223,18 @@ but_forgotten c text t = record {
 minus_nothing : (n : ℕ) → n - length {A = ℕ} [] ≡ n
 minus_nothing n = omega arith
 
-module _ (c : Class) (text : Text) (old : Table) (taken : Key → ℕ) (co : Course) (a : Tells old taken co) where
+module _ (c : Class) (text : Text) (old : Table) (taken : Key → ℕ) (co : Course) (a : IsTable old taken co) where
   forgotten_by : (o : Option Input) → find_input c text old.entries ≡ o
-      → Tells (forgotten c text old) (λ other. if same_key (Named c text) other then length
+      → IsTable (forgotten c text old) (λ other. if same_key (Named c text) other then length
       (came (Named c text) co.events) else taken other) co
   forgotten_by (Some i) e =
-      subst (λ n. Tells (forgotten c text old) (λ other. if same_key (Named c text) other then n else taken other) co)
+      subst (λ n. IsTable (forgotten c text old) (λ other. if same_key (Named c text) other then n else taken other) co)
       (minus_nothing (length (came (Named c text) co.events)))
       (tells_taken (Named c text) old (forgotten c text old) taken co i [] (length i.unread) a e
       (sym (drop_all i.unread)) (read_at c text (λ j. record { unread = []; ended = j.ended }) i old
       (forgotten c text old) e refl refl))
   forgotten_by None e =
-      subst (λ (es : List Entry). Tells (record old { entries = es })
+      subst (λ (es : List Entry). IsTable (record old { entries = es })
       (λ other. if same_key (Named c text) other then length (came (Named c text) co.events) else taken other) co)
       (sym (with_absent c text (λ i. record { unread = []; ended = i.ended }) old.entries e))
       (record {
@@ -253,13 +253,13 @@ module _ (c : Class) (text : Text) (old : Table) (taken : Key → ℕ) (co : Cou
           absurd (cc)
       named other input false f h = a.inputs other input h
 
-  pub tells_forgotten : Tells (forgotten c text old) (λ other. if same_key (Named c text) other then length
+  pub tells_forgotten : IsTable (forgotten c text old) (λ other. if same_key (Named c text) other then length
       (came (Named c text) co.events) else taken other) co
   tells_forgotten = forgotten_by (find_input c text old.entries) refl
 
 pub forgets_file : {W : Type 0} (ghosts : Ghosts W) (g : Given) (s : State) (c : Class) (text : Text) (old : Table)
     (w : W) →
-    Meets ghosts (beside s) Tells (λ t. s.course.used) g (Do (machine.Forget (Named c text))) (goes_on {A = Unit {0}})
+    Meets ghosts (beside s) IsTable (λ t. s.course.used) g (Do (machine.Forget (Named c text))) (goes_on {A = Unit {0}})
     old w (Ok (tt {0})) (forgotten c text old) w
 forgets_file ghosts g s c text old w = finished (changes refl (at_once _ old w) (λ k t co a. (
   λ other. if same_key (Named c text) other then length (came (Named c text) co.events) else t other,
@@ -289,7 +289,7 @@ owns_gone numbers after c text n table new h es is owns = λ m.
 module _ {W : Type 0} {ghosts : Ghosts W} (laws : Laws ghosts)
     (g : Given) (text : Text) (k : Kept) (t now : Table) (but : IsBut OperandFile text t now) (rest : List Piece
     → List Piece) (p : Piece) (old : Whole) (first w : W)
-    (lead : LeadsOn ghosts g p old first (λ l. Do (Past (Named OperandFile text)) ∷ rest l) (k, t) w) where
+    (lead : LeadsWhole ghosts g p old first (λ l. Do (Past (Named OperandFile text)) ∷ rest l) (k, t) w) where
   abbrev passed : Kept
   passed = with_main (record k.main { current = None }) k
 
@@ -308,7 +308,7 @@ module _ {W : Type 0} {ghosts : Ghosts W} (laws : Laws ghosts)
 
   -- it is not open
   pub passes_unopened : find_stream OperandFile text (open_of now) ≡ None
-      → LeadsOn ghosts g p old first rest (passed, now) w
+      → LeadsWhole ghosts g p old first rest (passed, now) w
   passes_unopened none =
       let there : find_stream OperandFile text (open_of t) ≡ None = ap (find_stream OperandFile text) (sym but.streams)
       ∙ none in
@@ -328,7 +328,7 @@ module _ {W : Type 0} {ghosts : Ghosts W} (laws : Laws ghosts)
   pub passes_shut : (n : ℕ) (new : Table) (r : Reply) (w' : W) → find_stream OperandFile text (open_of now) ≡ Some n
       → new.entries ≡ entries_without OperandFile text now.entries → new.input ≡ now.input →
       Answered ghosts (record { place = nowhere; given = false; request = request.Shut n }) w r w' →
-      LeadsOn ghosts g p old first rest (passed, new) w'
+      LeadsWhole ghosts g p old first rest (passed, new) w'
   passes_shut n new r w' found es same x =
       let there : find_stream OperandFile text (open_of t) ≡ Some n = ap (find_stream OperandFile text)
       (sym but.streams) ∙ found in
@@ -405,7 +405,7 @@ same_text a b e = cc
 -- the stream that was read, in other words
 pub read_as : {W : Type 0} {ghosts : Ghosts W} {g : Given} {p : Piece} {old new : Whole} {w w' : W}
     {r : Result NextRecord Halt} {key other : Key} →
-    key ≡ other → Performs ghosts g p (found_main key) old w r new w'
-    → Performs ghosts g p (found_main other) old w r new w'
+    key ≡ other → MeetsWhole ghosts g p (found_main key) old w r new w'
+    → MeetsWhole ghosts g p (found_main other) old w r new w'
 read_as {ghosts = ghosts} {g = g} {p = p} {old = old} {new = new} {w = w} {w' = w'} {r = r} e h =
-    subst (λ z. Performs ghosts g p (found_main z) old w r new w') e h
+    subst (λ z. MeetsWhole ghosts g p (found_main z) old w r new w') e h

@@ -44,7 +44,7 @@ use Rattle.awk_store.specs.declared.spot.Spot.{Spot}
 use Rattle.awk_store.proofs.Lifting.{apart, apart-text, lifted_at}
 use Rattle.awk_store.proofs.Acting.{acted, at_rest, moves, alters, done, faulted}
 use Rattle.awk_input.specs.Gots.{IsGot}
-use Rattle.awk_input.specs.Performs.{LeadsOn, Performs, PerformsIn}
+use Rattle.awk_input.specs.MeetsWhole.{LeadsWhole, MeetsWhole, MeetsIn}
 use Rattle.awk_input.specs.Inputs.{IsMainLine, after_operands, found_main, meeting, message, past_standard, taken}
 
 -- ---- how far the main input is read
@@ -170,9 +170,9 @@ takes_so g s key e f = record {
 -- a line of the main input is taken
 pub line_taken : {W : Type 0} {ghosts : Ghosts W} (g : Given) (k : Kept) (old new : Table) (text : Text) (w : W)
     → IsMainLine k old text new →
-    Performs ghosts g (Do Take) give (k, old) w (Ok (v.Input text)) (k, new) w
+    MeetsWhole ghosts g (Do Take) give (k, old) w (Ok (v.Input text)) (k, new) w
 line_taken {ghosts = ghosts} g k old new text w x =
-    let read : Performs ghosts g (Do Take) (found_main x.key) (k, old) w (Ok (found.Record text)) (k, new) w =
+    let read : MeetsWhole ghosts g (Do Take) (found_main x.key) (k, old) w (Ok (found.Record text)) (k, new) w =
     lifted_at g k (λ row cells sound.
     let s = apart g k row in
     gives ghosts g s nowhere x.key (kept.own_text k own.Rs) (apart-text g k row cells sound own.Rs) old new
@@ -285,15 +285,15 @@ anywhere ghosts g mid new w (halt.Log place) first from k l s c d here x y = y
 
 module _ {W : Type 0} {ghosts : Ghosts W} {g : Given} {p : Piece} {rest : List Piece → List Piece} {old new : Whole}
     {w w' : W} where
-  pub done_in : {A : Type 0} {to : A → List Piece → List Piece} {x : A} → LeadsOn ghosts g p old w (λ k. to x k) new w'
-      → PerformsIn ghosts g p to rest old w (Ok x) new w'
+  pub done_in : {A : Type 0} {to : A → List Piece → List Piece} {x : A} → LeadsWhole ghosts g p old w (λ k. to x k) new w'
+      → MeetsIn ghosts g p to rest old w (Ok x) new w'
   done_in h = record { plays = λ first k hid c a. h.plays first k hid c a }
 
   module _ {mid : Whole} where
     pub stop_in : {A B : Type 0} {to : A → List Piece → List Piece} {on : B → List Piece → List Piece} {q : Piece}
         {r : Result B Halt} {w'' : W} (x : Halt) →
-        LeadsOn ghosts g p old w (λ k. q ∷ rest k) mid w' → Performs ghosts g q on mid w' r new w'' → r ≡ Err x
-        → PerformsIn ghosts g p to rest old w (Err x) new w''
+        LeadsWhole ghosts g p old w (λ k. q ∷ rest k) mid w' → MeetsWhole ghosts g q on mid w' r new w'' → r ≡ Err x
+        → MeetsIn ghosts g p to rest old w (Err x) new w''
     stop_in {q = q} {w'' = w''} x h m e = record {
       plays = λ first k hid c a. let y = h.plays first k hid c a in
           let z : Halted ghosts (base g) (Agreeing g) used g first (q ∷ rest k) (seen (base g mid y.hidden) y.course)
@@ -304,13 +304,13 @@ module _ {W : Type 0} {ghosts : Ghosts W} {g : Given} {p : Piece} {rest : List P
 
     pub stop_acts : {A B : Type 0} {to : A → List Piece → List Piece} {on : B → List Piece → List Piece} {q : Piece}
         {r : Result B Halt} (x : Halt) →
-        LeadsOn ghosts g p old w (λ k. q ∷ k) mid w' → Acts g q on mid r new → r ≡ Err x
-        → PerformsIn ghosts g p to rest old w (Err x) new w'
+        LeadsWhole ghosts g p old w (λ k. q ∷ k) mid w' → Acts g q on mid r new → r ≡ Err x
+        → MeetsIn ghosts g p to rest old w (Err x) new w'
     stop_acts {on = on} {q = q} {r = r} x h m e = record {
       plays = λ first k hid c a. let y = h.plays first k hid c a in
           let u : HaltsSo g (q ∷ k) mid y.hidden y.course new x = rw e at (m.settles k y.hidden y.course y.knows.agrees)
           in
-          let t : Performs ghosts g q on mid w' r new w' = acted m in
+          let t : MeetsWhole ghosts g q on mid w' r new w' = acted m in
           let z : Halted ghosts (base g) (Agreeing g) used g first (q ∷ k) (seen (base g mid y.hidden) y.course)
           y.course k new w' x = rw e at (t.plays first k y.hidden y.course y.knows) in
           let v = anywhere ghosts g mid new w' x first (q ∷ k) k (rest k) (seen (base g mid y.hidden) y.course) y.course

@@ -13,8 +13,8 @@ use Rattle.awk_streams.specs.Tasks.{Owns, goes_on}
 use Rattle.awk_streams.proofs.Chain.{part, stop}
 use Rattle.awk_streams.proofs.Numbers.{among_all, found_once}
 use Rattle.awk_store.specs.Wholes.{Whole}
-use Rattle.awk_input.specs.Inputs.{Onward}
-use Rattle.awk_input.specs.Performs.{LeadsOn, Performs}
+use Rattle.awk_input.specs.Inputs.{LeadsOrHalts}
+use Rattle.awk_input.specs.MeetsWhole.{LeadsWhole, MeetsWhole}
 
 -- a stream that is open is the world's
 pub open_duty : (numbers : List ℕ) (c : Class) (t : Text) (n : ℕ) (table : Table) → find_stream c t (open_of table)
@@ -27,7 +27,7 @@ open_duty numbers c t n table h owns =
 -- a last piece, behind whatever was done
 pub onward_last : {W A : Type 0} {ghosts : Ghosts W} (g : Given) (p q : Piece) (old mid new : Whole) (w w' w'' : W)
     (r : Result A Halt) →
-    LeadsOn ghosts g p old w (λ l. q ∷ l) mid w' → Performs ghosts g q goes_on mid w' r new w''
-    → Onward ghosts g p old w (λ l. l) r new w''
+    LeadsWhole ghosts g p old w (λ l. q ∷ l) mid w' → MeetsWhole ghosts g q goes_on mid w' r new w''
+    → LeadsOrHalts ghosts g p old w (λ l. l) r new w''
 onward_last g p q old mid new w w' w'' (Ok x) lead task = part x lead task refl
 onward_last g p q old mid new w w' w'' (Err h) lead task = stop h (λ k. refl) lead task refl

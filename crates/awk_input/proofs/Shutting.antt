@@ -10,7 +10,7 @@ use Rattle.awk_program.specs.Slots.{Text}
 use Rattle.awk_machine.specs.State.{Course}
 use Rattle.awk_machine.specs.Streams.{want, with_event}
 use Rattle.awk_streams.specs.Tables.{Table, Entry, open_of, find_input, entries_without}
-use Rattle.awk_streams.specs.Tasks.{Distinct, Tells, IsRead, input_at}
+use Rattle.awk_streams.specs.Tasks.{Distinct, IsTable, IsRead, input_at}
 use Rattle.awk_input.proofs.Opening.{none_named}
 
 -- ---- a stream that is gone
@@ -66,8 +66,8 @@ input_without c text d t input (e ∷ es) u h = by (is_named d t e.stream) (is_n
         rest (sym (ap (λ z. if z then Some e.input else find_input d t (entries_without c text es)) f) ∙ x)
 
 pub tells_closed : (place : Place) (c : Class) (text : Text) (old new : Table) (taken : Key → ℕ) (co : Course)
-    (r : Reply) → new.entries ≡ entries_without c text old.entries → new.input ≡ old.input → Tells old taken co →
-    Tells new taken (with_event (want place (Shuts (Named c text))) r co)
+    (r : Reply) → new.entries ≡ entries_without c text old.entries → new.input ≡ old.input → IsTable old taken co →
+    IsTable new taken (with_event (want place (Shuts (Named c text))) r co)
 tells_closed place c text old new taken co r es same a = record {
   streams = streams;
   distinct = distinct;

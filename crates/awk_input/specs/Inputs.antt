@@ -19,7 +19,7 @@ use Rattle.awk_streams.specs.Tables.{Table}
 use Rattle.awk_streams.specs.Tasks.{goes_on}
 use Rattle.awk_store.specs.Kept.{Kept, own_text}
 use Rattle.awk_store.specs.Wholes.{Whole}
-use Rattle.awk_input.specs.Performs.{LeadsOn, Performs}
+use Rattle.awk_input.specs.MeetsWhole.{LeadsWhole, MeetsWhole}
 
 -- ---- how far it is read
 
@@ -75,7 +75,7 @@ abbrev pub at_records : List Piece → List Piece
 at_records k = At Records [] ∷ k
 
 -- behind whatever was done the machine leads on, or the whole is halted
-abbrev pub Onward : {W A : Type 0} → Ghosts W → Given → Piece → Whole → W → (List Piece → List Piece) → Result A Halt →
+abbrev pub LeadsOrHalts : {W A : Type 0} → Ghosts W → Given → Piece → Whole → W → (List Piece → List Piece) → Result A Halt →
     Whole → W → Type 0
-Onward ghosts g p old w to (Ok x) new w' = LeadsOn ghosts g p old w to new w'
-Onward ghosts g p old w to (Err h) new w' = Performs ghosts g p (goes_on {A = Unit {0}}) old w (Err h) new w'
+LeadsOrHalts ghosts g p old w to (Ok x) new w' = LeadsWhole ghosts g p old w to new w'
+LeadsOrHalts ghosts g p old w to (Err h) new w' = MeetsWhole ghosts g p (goes_on {A = Unit {0}}) old w (Err h) new w'

@@ -10,18 +10,18 @@ use Rattle.awk_streams.specs.Chains.{Knows, Comes, Halted, Leads, Meets}
 use Rattle.awk_store.specs.Wholes.{Whole, Agreeing, base, used}
 
 -- from its piece the machine leads on, or the part is halted
-abbrev pub Performs : {W A : Type 0} → Ghosts W → Given → Piece → (A → List Piece → List Piece) → Whole → W →
+abbrev pub MeetsWhole : {W A : Type 0} → Ghosts W → Given → Piece → (A → List Piece → List Piece) → Whole → W →
     Result A Halt → Whole → W → Type 0
-Performs ghosts g p to old w result new w' = Meets ghosts (base g) (Agreeing g) used g p to old w result new w'
+MeetsWhole ghosts g p to old w result new w' = Meets ghosts (base g) (Agreeing g) used g p to old w result new w'
 
 -- from the piece p it has led on to other pieces
-abbrev pub LeadsOn : {W : Type 0} → Ghosts W → Given → Piece → Whole → W → (List Piece → List Piece) → Whole → W →
+abbrev pub LeadsWhole : {W : Type 0} → Ghosts W → Given → Piece → Whole → W → (List Piece → List Piece) → Whole → W →
     Type 0
-LeadsOn ghosts g p old w to new w' = Leads ghosts (base g) (Agreeing g) used g p old w to new w'
+LeadsWhole ghosts g p old w to new w' = Leads ghosts (base g) (Agreeing g) used g p old w to new w'
 
 -- from its piece the machine leads on, or the part is halted where more than what is behind the piece is left to be
 -- done: `next` in the midst of records comes back to them
-pub record PerformsIn {W A : Type 0} (ghosts : Ghosts W) (g : Given) (p : Piece) (to : A → List Piece → List Piece)
+pub record MeetsIn {W A : Type 0} (ghosts : Ghosts W) (g : Given) (p : Piece) (to : A → List Piece → List Piece)
     (rest : List Piece → List Piece)
     (old : Whole) (w : W) (result : Result A Halt) (new : Whole) (w' : W) : Type 0 where
   pub plays : (first : W) (k : List Piece) (hid : Hidden) (c : Course) →

@@ -13,7 +13,7 @@ ghost use Rattle.awk_store.specs.Wholes.{Whole};
 ghost use Rattle.awk_input.specs.Hosts.{IsHost, can_set};
 ghost use Rattle.awk_input.specs.Operands as spec;
 ghost use Rattle.awk_input.specs.Operands.{Moves};
-ghost use Rattle.awk_input.specs.Performs.{Performs};
+ghost use Rattle.awk_input.specs.MeetsWhole.{MeetsWhole};
 
 use crate::host::Host;
 use awk_program::Variable;
@@ -106,7 +106,7 @@ pub fn assign<W: World>(
     ensures task { (g : Given) → IsHost host.now g → (t : Table) (p : Piece) (old : Whole) →
         Moves g p old (assignment g operand.entry.whole.now operand.entry.name.now operand.entry.text.now)
         (store.old, t)
-        → Performs W.World g p goes_on old world.old result (store.new, t) world.new }
+        → MeetsWhole W.World g p goes_on old world.old result (store.new, t) world.new }
     ensures numbers { W.open_numbers world.new ≡ W.open_numbers world.old }
 {
     let Ok(sent) = copy_all(alloc, operand.name, operand.text) else {

@@ -13,9 +13,9 @@ ghost use Rattle.awk_streams.specs.Tasks.{Owns, goes_on};
 ghost use Rattle.awk_store.specs.Acts.{Acts};
 ghost use Rattle.awk_store.specs.Wholes.{Whole};
 ghost use Rattle.awk_input.specs.Hosts.{IsHost};
-ghost use Rattle.awk_input.specs.Inputs.{Onward, found_main, taken};
+ghost use Rattle.awk_input.specs.Inputs.{LeadsOrHalts, found_main, taken};
 ghost use Rattle.awk_input.specs.Operands.{IsBut, Moves, begun_or, current_key, opening_of};
-ghost use Rattle.awk_input.specs.Performs.{LeadsOn, Performs};
+ghost use Rattle.awk_input.specs.MeetsWhole.{LeadsWhole, MeetsWhole};
 
 use crate::host::Host;
 use crate::progress::take_out;
@@ -62,7 +62,7 @@ fn open_file<W: World>(
     requires { Owns (W.open_numbers world.old) streams.old }
     ensures task { (g : Given) → IsHost host.now g → (k : Kept) (p : Piece) (old : Whole) →
         Moves g p old (opening_of g text.now) (k, streams.old)
-        → Performs W.World g p (begun_or text.now) old world.old result (k, streams.new) world.new }
+        → MeetsWhole W.World g p (begun_or text.now) old world.old result (k, streams.new) world.new }
     ensures owns { Owns (W.open_numbers world.new) streams.new }
 {
     let name = StreamName {
@@ -94,7 +94,7 @@ fn begin_named<W: World>(
     requires { Owns (W.open_numbers world.old) streams.old }
     ensures task { (g : Given) → IsHost host.now g → (p : Piece) (old : Whole) →
         Moves g p old (opening_of g text) (store.old, streams.old)
-        → Performs W.World g p goes_on old world.old result (store.new, streams.new) world.new }
+        → MeetsWhole W.World g p goes_on old world.old result (store.new, streams.new) world.new }
     ensures owns { Owns (W.open_numbers world.new) streams.new }
 {
     let copy = text.copy(alloc)?;
@@ -118,7 +118,7 @@ pub fn begin_input<W: World>(
     requires { Owns (W.open_numbers world.old) streams.old }
     ensures task { (g : Given) → IsHost host.now g → (p : Piece) (old : Whole) →
         Moves g p old (file g text) (store.old, streams.old)
-        → Performs W.World g p goes_on old world.old result (store.new, streams.new) world.new }
+        → MeetsWhole W.World g p goes_on old world.old result (store.new, streams.new) world.new }
     ensures owns { Owns (W.open_numbers world.new) streams.new }
 {
     if text.bytes() == b"-".as_slice() {
@@ -139,7 +139,7 @@ fn read_file<W: World>(
 ) -> Result<NextRecord, Halt>
     requires { Owns (W.open_numbers world.old) streams.old }
     ensures task { (g : Given) → store.now.main.ended ≡ false
-        → Performs W.World g (Do Take) (found_main (current_key store.now)) (store.now, streams.old) world.old result
+        → MeetsWhole W.World g (Do Take) (found_main (current_key store.now)) (store.now, streams.old) world.old result
         (store.now, streams.new) world.new }
     ensures current { OnOk result ((text : Text) × (store.now.main.current ≡ Some (Named event.OperandFile text))) }
     ensures owns { Owns (W.open_numbers world.new) streams.new }
@@ -178,8 +178,8 @@ pub fn pass_file<W: World>(
     ensures task { (g : Given) (text : Text) → store.old.main.current ≡ Some (Named event.OperandFile text) →
         (t : Table) → IsBut event.OperandFile text t streams.old
         → (rest : List Piece → List Piece) (p : Piece) (old : Whole) (w : W)
-        → LeadsOn W.World g p old w (λ k. Do (Past (Named event.OperandFile text)) ∷ rest k) (store.old, t) world.old
-        → Onward W.World g p old w rest result (store.new, streams.new) world.new }
+        → LeadsWhole W.World g p old w (λ k. Do (Past (Named event.OperandFile text)) ∷ rest k) (store.old, t) world.old
+        → LeadsOrHalts W.World g p old w rest result (store.new, streams.new) world.new }
     ensures owns { Owns (W.open_numbers world.new) streams.new }
 {
     let Some(text) = take_out(store) else {
@@ -220,9 +220,9 @@ fn give_up_file<W: World>(
     requires { Owns (W.open_numbers world.old) streams.old }
     ensures task { (g : Given) (text : Text) → store.old.main.current ≡ Some (Named event.OperandFile text)
         → (p : Piece) (old : Whole) (w : W) →
-        LeadsOn W.World g p old w (found_main (Named event.OperandFile text) NextRecord.Failed) (store.old, streams.old)
+        LeadsWhole W.World g p old w (found_main (Named event.OperandFile text) NextRecord.Failed) (store.old, streams.old)
         world.old
-        → Onward W.World g p old w (λ k. Do Take ∷ k) result (store.new, streams.new) world.new }
+        → LeadsOrHalts W.World g p old w (λ k. Do Take ∷ k) result (store.new, streams.new) world.new }
     ensures owns { Owns (W.open_numbers world.new) streams.new }
 {
     let text = current_text(alloc, store.main())?;
@@ -239,7 +239,7 @@ pub fn take_file<W: World>(
 ) -> Result<Option<Value>, Halt>
     requires { Owns (W.open_numbers world.old) streams.old }
     ensures task { (g : Given) → store.old.main.ended ≡ false
-        → Performs W.World g (Do Take) taken (store.old, streams.old) world.old result (store.new, streams.new)
+        → MeetsWhole W.World g (Do Take) taken (store.old, streams.old) world.old result (store.new, streams.new)
         world.new }
     ensures owns { Owns (W.open_numbers world.new) streams.new }
 {

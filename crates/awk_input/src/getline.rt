@@ -13,7 +13,7 @@ ghost use Rattle.awk_store.specs.Acts.{Acts};
 ghost use Rattle.awk_store.specs.Spots.{IsSpotOf, value_of};
 ghost use Rattle.awk_store.specs.Wholes.{names_in};
 ghost use Rattle.awk_input.specs.Gots.{piped_of, read_of};
-ghost use Rattle.awk_input.specs.Performs.{Performs};
+ghost use Rattle.awk_input.specs.MeetsWhole.{MeetsWhole};
 
 use crate::counted::{Counted, Getline, set_record};
 use awk_program::Own;
@@ -55,7 +55,7 @@ fn fetch_record<W: World>(
 ) -> Result<Value, Halt>
     requires { Owns (W.open_numbers world.old) streams.old }
     ensures task { (g : Given) →
-        Performs W.World g (Do (fetching place (key_of source.now))) give (store.now, streams.old) world.old result
+        MeetsWhole W.World g (Do (fetching place (key_of source.now))) give (store.now, streams.old) world.old result
         (store.now, streams.new) world.new }
     ensures owns { Owns (W.open_numbers world.new) streams.new }
 {
@@ -77,7 +77,7 @@ pub fn file_record<W: World>(
 ) -> Result<Value, Halt>
     requires { Owns (W.open_numbers world.old) streams.old }
     ensures task { (g : Given) (r : p.Reference) (x : Expression) (target : Value)
-        → Performs W.World g (At (Value_of (p.getline_file place r x)) (lent_value name.entry ∷ target ∷ []))
+        → MeetsWhole W.World g (At (Value_of (p.getline_file place r x)) (lent_value name.entry ∷ target ∷ []))
         (read_of place r x (lent_value name.entry) target) (store.now, streams.old) world.old result
         (store.now, streams.new) world.new }
     ensures owns { Owns (W.open_numbers world.new) streams.new }
@@ -124,7 +124,7 @@ pub fn command_record<W: World>(
 ) -> Result<Value, Halt>
     requires { Owns (W.open_numbers world.old) streams.old }
     ensures task { (g : Given) (r : p.Reference) (xs : Pipes) (target : Value)
-        → Performs W.World g (At (Pipes_of (p.piped place r xs)) (target ∷ lent_value command.entry ∷ []))
+        → MeetsWhole W.World g (At (Pipes_of (p.piped place r xs)) (target ∷ lent_value command.entry ∷ []))
         (piped_of place r xs (lent_value command.entry) target) (store.now, streams.old) world.old result
         (store.now, streams.new) world.new }
     ensures owns { Owns (W.open_numbers world.new) streams.new }
@@ -173,7 +173,7 @@ pub fn getline_pipe<W: World>(
 ) -> Result<Value, Halt>
     requires { Owns (W.open_numbers world.old) streams.old }
     ensures task { (g : Given) (r : p.Reference) (xs : Pipes) → IsSpotOf (names_in g) r target
-        → Performs W.World g (At (Pipes_of (p.piped place r xs)) (value_of target ∷ lent_value command.entry ∷ []))
+        → MeetsWhole W.World g (At (Pipes_of (p.piped place r xs)) (value_of target ∷ lent_value command.entry ∷ []))
         (λ v k. give v (At (Pipes_of xs) [] ∷ k)) (store.old, streams.old) world.old result (store.new, streams.new)
         world.new }
     ensures owns { Owns (W.open_numbers world.new) streams.new }

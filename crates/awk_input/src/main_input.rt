@@ -12,8 +12,8 @@ ghost use Rattle.awk_store.specs.Acts.{Acts};
 ghost use Rattle.awk_store.specs.Spots.{IsSpotOf, value_of};
 ghost use Rattle.awk_store.specs.Wholes.{Whole, names_in};
 ghost use Rattle.awk_input.specs.Hosts.{IsHost};
-ghost use Rattle.awk_input.specs.Inputs.{IsMainLine, Onward, at_records, counted_on, found_main, meeting, taken};
-ghost use Rattle.awk_input.specs.Performs.{LeadsOn, Performs, PerformsIn};
+ghost use Rattle.awk_input.specs.Inputs.{IsMainLine, LeadsOrHalts, at_records, counted_on, found_main, meeting, taken};
+ghost use Rattle.awk_input.specs.MeetsWhole.{LeadsWhole, MeetsWhole, MeetsIn};
 
 use crate::counted::{Counted, Getline, count_both, set_record};
 use crate::files::take_file;
@@ -44,7 +44,7 @@ fn read_standard<W: World>(
     requires ended { store.now.main.ended ≡ false }
     requires current { store.now.main.current ≡ Some (Standard 0) }
     ensures task { (g : Given) →
-        Performs W.World g (Do Take) (found_main (Standard 0)) (store.now, streams.old) world.old result
+        MeetsWhole W.World g (Do Take) (found_main (Standard 0)) (store.now, streams.old) world.old result
         (store.now, streams.new) world.new }
     ensures failed { IfOk result (λ x. FailsOpen (Standard 0) x streams.new) }
     ensures owns { Owns (W.open_numbers world.new) streams.new }
@@ -65,8 +65,8 @@ fn give_up<W: World>(
     requires owns { Owns (W.open_numbers world.old) streams.old }
     requires open { GoesOn (Standard 0) streams.old }
     ensures task { (g : Given) (p : Piece) (old : Whole) (w : W) →
-        LeadsOn W.World g p old w (found_main (Standard 0) NextRecord.Failed) (store.old, streams.old) world.old
-        → Onward W.World g p old w (λ k. Do Take ∷ k) result (store.new, streams.new) world.new }
+        LeadsWhole W.World g p old w (found_main (Standard 0) NextRecord.Failed) (store.old, streams.old) world.old
+        → LeadsOrHalts W.World g p old w (λ k. Do Take ∷ k) result (store.new, streams.new) world.new }
     ensures owns { Owns (W.open_numbers world.new) streams.new }
 {
     report(alloc, b"read".as_slice(), b"-".as_slice(), store, world)?;
@@ -86,7 +86,7 @@ fn take_standard<W: World>(
     requires ended { store.old.main.ended ≡ false }
     requires current { store.old.main.current ≡ Some (Standard 0) }
     ensures task { (g : Given) →
-        Performs W.World g (Do Take) taken (store.old, streams.old) world.old result (store.new, streams.new)
+        MeetsWhole W.World g (Do Take) taken (store.old, streams.old) world.old result (store.new, streams.new)
         world.new }
     ensures owns { Owns (W.open_numbers world.new) streams.new }
 {
@@ -113,7 +113,7 @@ fn turn<W: World>(
 ) -> Result<Option<Value>, Halt>
     requires { Owns (W.open_numbers world.old) streams.old }
     ensures task { (g : Given) → IsHost host.now g
-        → Performs W.World g (Do Take) taken (store.old, streams.old) world.old result (store.new, streams.new)
+        → MeetsWhole W.World g (Do Take) taken (store.old, streams.old) world.old result (store.new, streams.new)
         world.new }
     ensures owns { Owns (W.open_numbers world.new) streams.new }
 {
@@ -140,7 +140,7 @@ fn take_on<W: World>(
 ) -> Result<Value, Halt>
     requires { Owns (W.open_numbers world.old) streams.old }
     ensures task { (g : Given) → IsHost host.now g
-        → Performs W.World g (Do Take) give (store.old, streams.old) world.old result (store.new, streams.new)
+        → MeetsWhole W.World g (Do Take) give (store.old, streams.old) world.old result (store.new, streams.new)
         world.new }
     ensures owns { Owns (W.open_numbers world.new) streams.new }
 {
@@ -164,7 +164,7 @@ pub fn take<W: World>(
 ) -> Result<Value, Halt>
     requires { Owns (W.open_numbers world.old) streams.old }
     ensures task { (g : Given) → IsHost host.now g
-        → Performs W.World g (Do Take) give (store.old, streams.old) world.old result (store.new, streams.new)
+        → MeetsWhole W.World g (Do Take) give (store.old, streams.old) world.old result (store.new, streams.new)
         world.new }
     ensures owns { Owns (W.open_numbers world.new) streams.new }
 {
@@ -188,7 +188,7 @@ pub fn getline_main<W: World>(
 ) -> Result<Value, Halt>
     requires { Owns (W.open_numbers world.old) streams.old }
     ensures task { (g : Given) → IsHost host.now g → (r : p.Reference) → IsSpotOf (names_in g) r target
-        → Performs W.World g (At (Value_of (p.getline place r)) (value_of target ∷ [])) give (store.old, streams.old)
+        → MeetsWhole W.World g (At (Value_of (p.getline place r)) (value_of target ∷ [])) give (store.old, streams.old)
         world.old result (store.new, streams.new) world.new }
     ensures owns { Owns (W.open_numbers world.new) streams.new }
 {
@@ -251,7 +251,7 @@ fn next_any<W: World>(
 ) -> Result<bool, Halt>
     requires { Owns (W.open_numbers world.old) streams.old }
     ensures task { (g : Given) → IsHost host.now g
-        → PerformsIn W.World g (At Records []) (meeting g) at_records (store.old, streams.old) world.old result
+        → MeetsIn W.World g (At Records []) (meeting g) at_records (store.old, streams.old) world.old result
         (store.new, streams.new) world.new }
     ensures owns { Owns (W.open_numbers world.new) streams.new }
 {
@@ -276,7 +276,7 @@ pub fn next_record<W: World>(
 ) -> Result<bool, Halt>
     requires { Owns (W.open_numbers world.old) streams.old }
     ensures task { (g : Given) → IsHost host.now g
-        → PerformsIn W.World g (At Records []) (meeting g) at_records (store.old, streams.old) world.old result
+        → MeetsIn W.World g (At Records []) (meeting g) at_records (store.old, streams.old) world.old result
         (store.new, streams.new) world.new }
     ensures owns { Owns (W.open_numbers world.new) streams.new }
 {

@@ -14,7 +14,7 @@ ghost use Rattle.awk_streams.specs.Tasks.{Owns, goes_on};
 ghost use Rattle.awk_store.specs.Wholes.{Whole};
 ghost use Rattle.awk_input.specs.Hosts.{IsHost};
 ghost use Rattle.awk_input.specs.Operands.{Moves, argv, is_assigning};
-ghost use Rattle.awk_input.specs.Performs.{Performs};
+ghost use Rattle.awk_input.specs.MeetsWhole.{MeetsWhole};
 
 use crate::assigns::{AssignmentOperand, assign};
 use crate::files::begin_input;
@@ -110,7 +110,7 @@ fn begin_operand<W: World>(
     requires { Owns (W.open_numbers world.old) streams.old }
     ensures task { (g : Given) → IsHost host.now g → (p : Piece) (old : Whole) →
         Moves g p old (operand_of g text) (store.old, streams.old)
-        → Performs W.World g p goes_on old world.old result (store.new, streams.new) world.new }
+        → MeetsWhole W.World g p goes_on old world.old result (store.new, streams.new) world.new }
     ensures owns { Owns (W.open_numbers world.new) streams.new }
 {
     let bytes = text.bytes();
@@ -141,7 +141,7 @@ fn look<W: World>(
     requires owns { Owns (W.open_numbers world.old) streams.old }
     requires next { next ≡ store.old.main.position + 1 }
     ensures task { (g : Given) → IsHost host.now g
-        → Performs W.World g (Do machine.Look) goes_on (store.old, streams.old) world.old result
+        → MeetsWhole W.World g (Do machine.Look) goes_on (store.old, streams.old) world.old result
         (store.new, streams.new) world.new }
     ensures owns { Owns (W.open_numbers world.new) streams.new }
 {
@@ -163,7 +163,7 @@ pub fn operand<W: World>(
 ) -> Result<(), Halt>
     requires { Owns (W.open_numbers world.old) streams.old }
     ensures task { (g : Given) → IsHost host.now g
-        → Performs W.World g (Do machine.Operand) goes_on (store.old, streams.old) world.old result
+        → MeetsWhole W.World g (Do machine.Operand) goes_on (store.old, streams.old) world.old result
         (store.new, streams.new) world.new }
     ensures owns { Owns (W.open_numbers world.new) streams.new }
 {

@@ -11,8 +11,8 @@ ghost use Rattle.awk_text.specs.Values.{text_of};
 ghost use Rattle.awk_streams.specs.Tables.{kind};
 ghost use Rattle.awk_streams.specs.Tasks.{Owns};
 ghost use Rattle.awk_store.specs.Wholes.{Whole};
-ghost use Rattle.awk_input.specs.Inputs.{Onward};
-ghost use Rattle.awk_input.specs.Performs.{LeadsOn};
+ghost use Rattle.awk_input.specs.Inputs.{LeadsOrHalts};
+ghost use Rattle.awk_input.specs.Performs.{LeadsWhole};
 
 use awk_program::Redirect;
 use awk_streams::halt::Halt;
@@ -60,12 +60,12 @@ pub fn put_to<W: World>(
 ) -> Result<Octets, Halt>
     requires { Owns (W.open_numbers world.old) streams.old }
     ensures task { (g : Given) (k : Kept) (p : Piece) (old : Whole) (w : W)
-        → LeadsOn W.World g p old w
+        → LeadsWhole W.World g p old w
         (λ l. Do (machine.Open place (printing.mode_of how) (printing.class_of how)
         (text_of (lent_value name.entry)))
         ∷ Do (machine.Put place (Named (printing.class_of how) (text_of (lent_value name.entry))) text) ∷ l)
         (k, streams.old) world.old
-        → Onward W.World g p old w (λ l. l) result (k, streams.new) world.new }
+        → LeadsOrHalts W.World g p old w (λ l. l) result (k, streams.new) world.new }
     ensures text { IfOk result (λ same. same ≡ text) }
     ensures owns { Owns (W.open_numbers world.new) streams.new }
 {

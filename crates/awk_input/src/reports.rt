@@ -6,7 +6,7 @@ ghost use Rattle.awk_store.specs.Changes.{with_main};
 ghost use Rattle.awk_streams.specs.Tables.{Table};
 ghost use Rattle.awk_streams.specs.Tasks.{goes_on};
 ghost use Rattle.awk_input.specs.Inputs as spec;
-ghost use Rattle.awk_input.specs.Performs.{Performs};
+ghost use Rattle.awk_input.specs.MeetsWhole.{MeetsWhole};
 
 use crate::progress::fail;
 use awk_store::Store;
@@ -42,7 +42,7 @@ pub fn report<W: World>(
     world: &mut W,
 ) -> Result<(), Halt>
     ensures task { (g : Given) (t : Table) →
-        Performs W.World g (Do (Report what.now name.now)) goes_on (store.old, t) world.old result (store.new, t)
+        MeetsWhole W.World g (Do (Report what.now name.now)) goes_on (store.old, t) world.old result (store.new, t)
         world.new }
     ensures numbers { W.open_numbers world.new ≡ W.open_numbers world.old }
     ensures failed { OnOk result (store.new ≡ with_main (record store.old.main { failed = true }) store.old) }

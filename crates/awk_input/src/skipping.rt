@@ -8,8 +8,8 @@ ghost use Rattle.awk_program.specs.declared.jumps.Jump.TheVariants as j;
 ghost use Rattle.awk_streams.specs.Flows.{flows};
 ghost use Rattle.awk_store.specs.Wholes.{Whole};
 ghost use Rattle.awk_streams.specs.Tasks.{Owns};
-ghost use Rattle.awk_input.specs.Inputs.{Onward};
-ghost use Rattle.awk_input.specs.Performs.{LeadsOn, Performs};
+ghost use Rattle.awk_input.specs.Inputs.{LeadsOrHalts};
+ghost use Rattle.awk_input.specs.MeetsWhole.{LeadsWhole, MeetsWhole};
 
 use crate::files::pass_file;
 use crate::progress::pass_standard;
@@ -24,8 +24,8 @@ use box_world::world::World;
 fn skip<W: World>(store: &mut Store, streams: &mut Streams, world: &mut W) -> Result<(), Halt>
     requires { Owns (W.open_numbers world.old) streams.old }
     ensures task { (g : Given) (rest : List Piece → List Piece) (p : Piece) (old : Whole) (w : W)
-        → LeadsOn W.World g p old w (λ k. skipping store.old.main.current (rest k)) (store.old, streams.old) world.old
-        → Onward W.World g p old w rest result (store.new, streams.new) world.new }
+        → LeadsWhole W.World g p old w (λ k. skipping store.old.main.current (rest k)) (store.old, streams.old) world.old
+        → LeadsOrHalts W.World g p old w rest result (store.new, streams.new) world.new }
     ensures owns { Owns (W.open_numbers world.new) streams.new }
 {
     match &store.main().current {
@@ -48,7 +48,7 @@ pub fn next_file<W: World>(
 ) -> Halt
     requires { Owns (W.open_numbers world.old) streams.old }
     ensures task { (g : Given)
-        → Performs W.World g (At (Doing (p.jump (j.NextFile place))) []) flows (store.old, streams.old) world.old
+        → MeetsWhole W.World g (At (Doing (p.jump (j.NextFile place))) []) flows (store.old, streams.old) world.old
         (Err result) (store.new, streams.new) world.new }
     ensures owns { Owns (W.open_numbers world.new) streams.new }
 {

@@ -14,7 +14,7 @@ use Rattle.awk_streams.specs.declared.halt.Halt.{Halt}
 use Rattle.awk_streams.specs.Chains.{Comes, Halted, Meets}
 use Rattle.awk_streams.proofs.Chain.{comes-after, halted-after, join}
 use Rattle.awk_store.specs.Wholes.{Whole, Agreeing, base, used}
-use Rattle.awk_run.specs.Runs.{Goes_on, Reached, Stopped}
+use Rattle.awk_run.specs.Runs.{ReachedOn, Reached, Stopped}
 
 module _ {W : Type 0} {ghosts : Ghosts W} {g : Given} {first : W} {mid : Whole} {w : W} where
   -- a part is done, and its value goes where `on` says
@@ -52,11 +52,11 @@ module _ {W : Type 0} {ghosts : Ghosts W} {g : Given} {first : W} {mid : Whole} 
   -- a part is done, or halted
   goes_by : {A : Type 0} {q : Piece} {k : List Piece} {on : A → List Piece → List Piece} {new : Whole} {w' : W}
       (r : Result A Halt) → to_records k ≡ [] → Reached ghosts g first (q ∷ k) mid w →
-      Meets ghosts (base g) (Agreeing g) used g q on mid w r new w' → Goes_on ghosts g first (λ x. on x k) r new w'
+      Meets ghosts (base g) (Agreeing g) used g q on mid w r new w' → ReachedOn ghosts g first (λ x. on x k) r new w'
   goes_by (Ok x) none y m = then_part x y m refl
   goes_by (Err h) none y m = then_halt h none y m refl
 
   pub then_goes : {A : Type 0} {q : Piece} {k : List Piece} {on : A → List Piece → List Piece} {new : Whole} {w' : W}
       {r : Result A Halt} → to_records k ≡ [] → Reached ghosts g first (q ∷ k) mid w →
-      Meets ghosts (base g) (Agreeing g) used g q on mid w r new w' → Goes_on ghosts g first (λ x. on x k) r new w'
+      Meets ghosts (base g) (Agreeing g) used g q on mid w r new w' → ReachedOn ghosts g first (λ x. on x k) r new w'
   then_goes {r = r} none y m = goes_by r none y m

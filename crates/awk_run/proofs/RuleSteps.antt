@@ -26,7 +26,7 @@ use Rattle.awk_streams.specs.declared.flow.Flow.TheVariants as flow
 use Rattle.awk_store.specs.States.{Hidden}
 use Rattle.awk_store.specs.Wholes.{Whole, Agreeing, base, names_in, used}
 use Rattle.awk_input.specs.Inputs.{at_records, more}
-use Rattle.awk_input.specs.Performs.{LeadsOn, Performs, PerformsIn}
+use Rattle.awk_input.specs.MeetsWhole.{LeadsWhole, MeetsWhole, MeetsIn}
 use Rattle.awk_machine.specs.Statements.{to_records}
 use Rattle.awk_streams.proofs.Chain.{halted-after}
 use Rattle.awk_run.specs.Rules.{come_back, rule_of}
@@ -134,7 +134,7 @@ module _ {W : Type 0} {ghosts : Ghosts W} {g : Given} {p : Piece} {rest : List P
     {w w' : W} where
   -- a part that begins in the midst of records
   pub begun : {A : Type 0} {to : A → List Piece → List Piece} {r : Result A Halt} (x : A)
-      → PerformsIn ghosts g p to rest old w r new w' → r ≡ Ok x → LeadsOn ghosts g p old w (to x) new w'
+      → MeetsIn ghosts g p to rest old w r new w' → r ≡ Ok x → LeadsWhole ghosts g p old w (to x) new w'
   begun {to = to} x m e = record {
     plays = λ first k hid c a.
         let z : Comes ghosts (base g) (Agreeing g) used g first (p ∷ k) (seen (base g old hid) c) c (to x k) new w' =
@@ -144,8 +144,8 @@ module _ {W : Type 0} {ghosts : Ghosts W} {g : Given} {p : Piece} {rest : List P
 
   -- and is halted
   pub in_midst : {A B : Type 0} {to : A → List Piece → List Piece} {on : B → List Piece
-      → List Piece} {r : Result A Halt} (h : Halt) → PerformsIn ghosts g p to rest old w r new w' → r ≡ Err h
-      → PerformsIn ghosts g p on rest old w (Err h) new w'
+      → List Piece} {r : Result A Halt} (h : Halt) → MeetsIn ghosts g p to rest old w r new w' → r ≡ Err h
+      → MeetsIn ghosts g p on rest old w (Err h) new w'
   in_midst h m e = record {
     plays = λ first k hid c a.
         let z : Halted ghosts (base g) (Agreeing g) used g first (p ∷ k) (seen (base g old hid) c) c (rest k) new w' h =
@@ -157,8 +157,8 @@ module _ {W : Type 0} {ghosts : Ghosts W} {g : Given} {p : Piece} {rest : List P
   pub stop_before : {A B : Type 0} {to : A → List Piece → List Piece} {on : B → List Piece → List Piece} {q : Piece}
       {behind : List Piece → List Piece} {mid : Whole} {u : W} {r : Result B Halt} (h : Halt)
       → ((k : List Piece) → to_records (behind k) ≡ to_records (rest k)) →
-      LeadsOn ghosts g p old w (λ k. q ∷ behind k) mid u → Performs ghosts g q on mid u r new w' → r ≡ Err h
-      → PerformsIn ghosts g p to rest old w (Err h) new w'
+      LeadsWhole ghosts g p old w (λ k. q ∷ behind k) mid u → MeetsWhole ghosts g q on mid u r new w' → r ≡ Err h
+      → MeetsIn ghosts g p to rest old w (Err h) new w'
   stop_before {q = q} {behind = behind} {mid = mid} h passed x m e = record {
     plays = λ first k hid c a. let y = x.plays first k hid c a in
         let z : Halted ghosts (base g) (Agreeing g) used g first (q ∷ behind k) (seen (base g mid y.hidden) y.course)

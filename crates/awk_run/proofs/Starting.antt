@@ -26,7 +26,7 @@ use Rattle.awk_store.proofs.Beginning.{begins}
 use Rattle.awk_streams.specs.declared.halt.Halt.{Halt}
 use Rattle.awk_streams.specs.declared.halt.Halt.TheVariants as halt
 use Rattle.awk_streams.specs.Tables.{Table}
-use Rattle.awk_streams.specs.Tasks.{Owns, Tells, IsRead, input_at}
+use Rattle.awk_streams.specs.Tasks.{Owns, IsTable, IsRead, input_at}
 use Rattle.awk_streams.proofs.Chain.{join}
 use Rattle.awk_store.specs.Acts.{HaltsSo, Settles}
 use Rattle.awk_store.specs.Wholes.{Whole, Agreeing, base, names_in, used}
@@ -138,7 +138,7 @@ standard_by true input e = sym (some_is none_open.input input e)
 standard_by false input e = absurd (cc)
 
 tells_none : (t : Table) → t.entries ≡ [] → t.input ≡ record { unread = []; ended = false }
-    → Tells t first_hidden.taken nothing
+    → IsTable t first_hidden.taken nothing
 tells_none t es i = record { streams = rw es refl; distinct = rw es tt; inputs = inputs }
   where
     inputs : (key : Key) (input : Input) → input_at key t ≡ Some input → IsRead key input 0 nothing

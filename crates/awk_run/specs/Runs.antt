@@ -7,7 +7,7 @@ use Rattle.awk_machine.specs.State.{Given}
 use Rattle.awk_streams.specs.declared.halt.Halt.{Halt}
 use Rattle.awk_streams.specs.Chains.{Comes, Halted, Lacks, Unlogged}
 use Rattle.awk_store.specs.Wholes.{Whole, Agreeing, base, used}
-use Rattle.awk_input.specs.Performs.{PerformsIn}
+use Rattle.awk_input.specs.Performs.{MeetsIn}
 use Rattle.awk_streams.specs.Tasks.{Owns}
 use Rattle.awk_forms.specs.Runs.{IsGiven}
 use Rattle.awk_forms.specs.declared.context.Context.{Context}
@@ -21,7 +21,7 @@ use Rattle.awk_run.specs.declared.ends.End.TheVariants.{Open, Memory, Log}
 pub record DoesIn {W A : Type 0} (ghosts : Ghosts W)
     (cx : Context) (p : Given → Piece) (to : Given → A → List Piece → List Piece) (rest : List Piece → List Piece)
     (old : Whole) (w : W) (result : Result A Halt) (new : Whole) (w' : W) : Type 0 where
-  pub plays : (g : Given) → IsGiven cx g → PerformsIn ghosts g (p g) (to g) rest old w result new w'
+  pub plays : (g : Given) → IsGiven cx g → MeetsIn ghosts g (p g) (to g) rest old w result new w'
   pub owns : Owns (ghosts.open_numbers w') new.1
 
 -- ---- from the beginning of a run on
@@ -35,8 +35,8 @@ module _ {W : Type 0} (ghosts : Ghosts W) (g : Given) (first : W) where
   abbrev pub Stopped : Halt → Whole → W → Type 0
   Stopped h now w = Halted ghosts (base g) (Agreeing g) used g first (first_pieces g) (first_state g) nothing [] now w h
 
-  abbrev pub Goes_on : {A : Type 0} → (A → List Piece) → Result A Halt → Whole → W → Type 0
-  Goes_on to result now w = MatchResult result (λ x. Reached (to x) now w) (λ h. Stopped h now w)
+  abbrev pub ReachedOn : {A : Type 0} → (A → List Piece) → Result A Halt → Whole → W → Type 0
+  ReachedOn to result now w = MatchResult result (λ x. Reached (to x) now w) (λ h. Stopped h now w)
 
   -- its own work has ended so
   abbrev pub Finished : End → Whole → W → Type 0

@@ -2,7 +2,7 @@
 ghost use Rattle.awk_forms.specs.Runs.{Does, IsGiven, whole_of};
 ghost use Rattle.awk_machine.specs.Pieces.{Do, Enter, Finish};
 ghost use Rattle.awk_machine.specs.State.{Beginning, Ending, Given, Ruling};
-ghost use Rattle.awk_run.specs.Runs.{Finished, Goes_on, Reached, Stopped};
+ghost use Rattle.awk_run.specs.Runs.{Finished, ReachedOn, Reached, Stopped};
 ghost use Rattle.awk_streams.specs.Flows.{flows};
 ghost use Rattle.awk_streams.specs.Tasks.{Owns, goes_on};
 ghost use Rattle.std.specs.Prelude.{[], ◌∷◌};
@@ -46,7 +46,7 @@ fn before_end<W: World>(cx: &Context<'_>, run: &mut Run, world: &mut W) -> Resul
     ensures plays { (g : Given) → IsGiven cx.now g → (first : W)
         → Reached W.World g first (Do (Enter Beginning) ∷ Do (Enter Ruling) ∷ Do (Enter Ending) ∷ []) (whole_of run.old)
         world.old
-        → Goes_on W.World g first (λ u. Do (Enter Ending) ∷ []) result (whole_of run.new) world.new }
+        → ReachedOn W.World g first (λ u. Do (Enter Ending) ∷ []) result (whole_of run.new) world.new }
     ensures owns { Owns (W.open_numbers world.new) run.new.streams }
 {
     begin(cx, run, world)?;
@@ -58,7 +58,7 @@ fn end_actions<W: World>(cx: &Context<'_>, run: &mut Run, world: &mut W) -> Resu
     requires { Owns (W.open_numbers world.old) run.old.streams }
     ensures plays { (g : Given) → IsGiven cx.now g → (first : W) →
         Reached W.World g first (Do (Enter Ending) ∷ []) (whole_of run.old) world.old
-        → Goes_on W.World g first (λ u. Do Finish ∷ []) result (whole_of run.new) world.new }
+        → ReachedOn W.World g first (λ u. Do Finish ∷ []) result (whole_of run.new) world.new }
     ensures owns { Owns (W.open_numbers world.new) run.new.streams }
 {
     run.store.set_phase(Phase::Ending);

@@ -6,7 +6,7 @@ ghost use Rattle.awk_machine.specs.State.{Beginning, Ending, Given, Ruling};
 ghost use Rattle.awk_program.specs.View.{names_of};
 ghost use Rattle.awk_run.specs.View.{view_outcome};
 ghost use Rattle.awk_run.specs.Reports.{Reported};
-ghost use Rattle.awk_run.specs.Runs.{Finished, Goes_on, Reached};
+ghost use Rattle.awk_run.specs.Runs.{Finished, ReachedOn, Reached};
 ghost use Rattle.awk_run.specs.Starts.{IsStart};
 ghost use Rattle.awk_store.specs.States.{Sound};
 ghost use Rattle.awk_streams.specs.Tasks.{Owns};
@@ -37,7 +37,7 @@ fn begin<W: World>(
     requires { Owns (W.open_numbers world.old) run.old.streams }
     ensures plays { (g : Given) → IsGiven cx.now g → IsStart start.now g → (first : W)
         → Reached W.World g first (first_pieces g) (whole_of run.old) world.old
-        → Goes_on W.World g first (λ u. Do (Enter Beginning) ∷ Do (Enter Ruling) ∷ Do (Enter Ending) ∷ []) result
+        → ReachedOn W.World g first (λ u. Do (Enter Beginning) ∷ Do (Enter Ruling) ∷ Do (Enter Ending) ∷ []) result
         (whole_of run.new) world.new }
     ensures owns { Owns (W.open_numbers world.new) run.new.streams }
 {

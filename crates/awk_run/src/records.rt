@@ -15,7 +15,7 @@ use awk_streams::halt::Halt;
 use box_world::world::World;
 
 /// Reads the next record, and does the rules for it; answers whether there was one.
-fn meet<W: World>(cx: &Context<'_>, run: &mut Run, world: &mut W) -> Result<bool, Halt>
+fn one_record<W: World>(cx: &Context<'_>, run: &mut Run, world: &mut W) -> Result<bool, Halt>
     requires { Owns (W.open_numbers world.old) run.old.streams }
     ensures { DoesIn W.World cx.now (λ g. At Records []) (λ g. more) at_records
         (whole_of run.old) world.old result (whole_of run.new) world.new }
@@ -55,7 +55,7 @@ fn turn<W: World>(cx: &Context<'_>, run: &mut Run, world: &mut W) -> Result<bool
     ensures { Does W.World cx.now (λ g. At Records []) (λ g. more)
         (whole_of run.old) world.old result (whole_of run.new) world.new }
 {
-    come_back(meet(cx, run, world))
+    come_back(one_record(cx, run, world))
 }
 
 /// Reads the records of the main input, while there are any, and does the rules for each.

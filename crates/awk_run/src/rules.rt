@@ -49,7 +49,7 @@ fn next_pattern<'a>(is_on: bool, first: &'a Expr, last: &'a Expr) -> &'a Expr
 
 /// Meets one pattern of a range, and answers whether the action is done; `None` where the range has just begun, and its
 /// last pattern is still to be met.
-fn meet<W: World>(
+fn test_range<W: World>(
     cx: &Context<'_>,
     n: usize,
     first: &Expr,
@@ -96,7 +96,7 @@ fn within<W: World>(
         (whole_of run.old) world.old result (whole_of run.new) world.new }
 {
     for _pattern in 0..2 {
-        let is_done = meet(cx, n, first, last, action, run, world)?;
+        let is_done = test_range(cx, n, first, last, action, run, world)?;
         if let Some(acts) = is_done {
             if !acts {
                 return Ok(Flow::On);

@@ -15,7 +15,7 @@ use Rattle.awk_machine.specs.Streams.{seen}
 use Rattle.awk_store.specs.States.{Hidden}
 use Rattle.awk_streams.specs.declared.halt.Halt.{Halt}
 use Rattle.awk_streams.specs.declared.halt.Halt.TheVariants as halt
-use Rattle.awk_streams.specs.Chains.{Led, Halted, Meets}
+use Rattle.awk_streams.specs.Chains.{Follows, Halted, Meets}
 use Rattle.awk_streams.specs.Tasks.{goes_on}
 use Rattle.awk_streams.proofs.Chain.{join}
 use Rattle.awk_store.specs.Wholes.{Whole, Agreeing, base, used}
@@ -201,7 +201,7 @@ module _ {g : Given} where
 
 module _ {W : Type 0} (ghosts : Ghosts W) (g : Given) where
   acted-halts : (h : Halt) (first w : W) (p : Piece) (k : List Piece) (old new : Whole) (hid : Hidden) (c : Course)
-      → used new ≡ used old → Led ghosts first (calls c.events) w → c.used ≡ used old →
+      → used new ≡ used old → Follows ghosts first (calls c.events) w → c.used ≡ used old →
       HaltsSo g (p ∷ k) old hid c new h → Halted ghosts (base g) (Agreeing g) used g first (p ∷ k)
       (seen (base g old hid) c) c k new w h
   acted-halts halt.Memory first w p k old new hid c same leads spent x = record {

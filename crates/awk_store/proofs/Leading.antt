@@ -11,7 +11,7 @@ use Rattle.awk_machine.specs.Streams.{seen, with_step}
 use Rattle.awk_store.specs.States.{phase_of}
 use Rattle.awk_streams.specs.Chains.{Leads, Meets}
 use Rattle.awk_streams.specs.Tables.{Table}
-use Rattle.awk_streams.specs.Tasks.{goes_on, Tells}
+use Rattle.awk_streams.specs.Tasks.{goes_on, IsTable}
 use Rattle.awk_streams.specs.declared.halt.Halt.{Halt}
 use Rattle.awk_streams.specs.declared.halt.Halt.TheVariants as halt
 use Rattle.awk_streams.proofs.Chain.{at_once, stepped, done, closed, cut, nexts, exits}
@@ -51,7 +51,7 @@ module _ {W : Type 0} {ghosts : Ghosts W} {g : Given} {p : Piece} {old new : Who
 
 -- ---- steps
 
-again : {t : Table} {taken : Key → ℕ} {c : Course} → Tells t taken c → Tells t taken (with_step c)
+again : {t : Table} {taken : Key → ℕ} {c : Course} → IsTable t taken c → IsTable t taken (with_step c)
 again x = record {
   streams = x.streams;
   distinct = x.distinct;

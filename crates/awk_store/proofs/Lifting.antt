@@ -16,7 +16,7 @@ use Rattle.awk_streams.specs.declared.halt.Halt.{Halt}
 use Rattle.awk_streams.specs.declared.halt.Halt.TheVariants as halt
 use Rattle.awk_streams.specs.Chains.{Comes, Halted, Meets}
 use Rattle.awk_streams.specs.Tables.{Table}
-use Rattle.awk_streams.specs.Tasks.{Does, Tells, beside}
+use Rattle.awk_streams.specs.Tasks.{MeetsTable, IsTable, beside}
 use Rattle.awk_store.specs.Wholes.{Agreeing, base, names_in, used}
 
 -- what the store alone stands for, with this record, and with the steps that it has
@@ -29,7 +29,7 @@ apart g k row = record (state (names_in g) k (record { taken = λ key. 0; row = 
 module _ {W : Type 0} (ghosts : Ghosts W) (g : Given) (k : Kept) (row : Row) (kept : IsKept row k.row)
     (cells : length k.cells ≡ length (names_in g)) (sound : Sound (names_in g)) where
   lift_comes : (first w : W) (from to : List Piece) (s : State) (c : Course) (t : Table)
-      → Comes ghosts (beside (apart g k row)) Tells (λ x. k.used) g first from s c to t w
+      → Comes ghosts (beside (apart g k row)) IsTable (λ x. k.used) g first from s c to t w
       → Comes ghosts (base g) (Agreeing g) used g first from s c to (k, t) w
   lift_comes first w from to s c t x = record {
     course = x.course;
@@ -49,7 +49,7 @@ module _ {W : Type 0} (ghosts : Ghosts W) (g : Given) (k : Kept) (row : Row) (ke
   }
 
   lift_halted : (h : Halt) (first w : W) (from to : List Piece) (s : State) (c : Course) (t : Table)
-      → Halted ghosts (beside (apart g k row)) Tells (λ x. k.used) g first from s c to t w h →
+      → Halted ghosts (beside (apart g k row)) IsTable (λ x. k.used) g first from s c to t w h →
       Halted ghosts (base g) (Agreeing g) used g first from s c to (k, t) w h
   unfolding lift_comes
   lift_halted (halt.Fault fault place) first w from to s c t x = lift_comes first w from _ s c t x
@@ -80,8 +80,8 @@ module _ {W : Type 0} (ghosts : Ghosts W) (g : Given) (k : Kept) (row : Row) (ke
 
   lift_result : {A : Type 0} (result : Result A Halt) (on : A → List Piece → List Piece) (first w : W)
       (from to : List Piece) (s : State) (c : Course) (t : Table) →
-      MatchResult result (λ x. Comes ghosts (beside (apart g k row)) Tells (λ y. k.used) g first from s c (on x to) t w)
-      (λ h. Halted ghosts (beside (apart g k row)) Tells (λ y. k.used) g first from s c to t w h) →
+      MatchResult result (λ x. Comes ghosts (beside (apart g k row)) IsTable (λ y. k.used) g first from s c (on x to) t w)
+      (λ h. Halted ghosts (beside (apart g k row)) IsTable (λ y. k.used) g first from s c to t w h) →
       MatchResult result (λ x. Comes ghosts (base g) (Agreeing g) used g first from s c (on x to) (k, t) w)
       (λ h. Halted ghosts (base g) (Agreeing g) used g first from s c to (k, t) w h)
   lift_result (Ok x) on first w from to s c t p = lift_comes first w from (on x to) s c t p
@@ -92,7 +92,7 @@ module _ {W : Type 0} (ghosts : Ghosts W) (g : Given) (k : Kept) (row : Row) (ke
 pub lifted_at : {W A : Type 0} {ghosts : Ghosts W} (g : Given) (k : Kept)
     {p : Piece} {to : A → List Piece → List Piece} {old new : Table} {w w' : W} {result : Result A Halt} →
     ((row : Row) → length k.cells ≡ length (names_in g) → Sound (names_in g)
-    → Does ghosts g (apart g k row) p to old w result new w') →
+    → MeetsTable ghosts g (apart g k row) p to old w result new w') →
     Meets ghosts (base g) (Agreeing g) used g p to (k, old) w result (k, new) w'
 lifted_at {ghosts = ghosts} g k {p = p} {to = to} {old = old} {new = new} {w' = w'} {result = result} h = record {
   plays = λ first rest hid c a.
@@ -104,7 +104,7 @@ lifted_at {ghosts = ghosts} g k {p = p} {to = to} {old = old} {new = new} {w' = 
 
 pub lifted : {W A : Type 0} {ghosts : Ghosts W} (g : Given) (k : Kept)
     {p : Piece} {to : A → List Piece → List Piece} {old new : Table} {w w' : W} {result : Result A Halt}
-    → ((s : State) → Does ghosts g s p to old w result new w') →
+    → ((s : State) → MeetsTable ghosts g s p to old w result new w') →
     Meets ghosts (base g) (Agreeing g) used g p to (k, old) w result (k, new) w'
 lifted g k h = lifted_at g k (λ row cells sound. h (apart g k row))
 

@@ -5,7 +5,7 @@ use Rattle.std.proofs.Common.{sym, ◌∙◌, ap, arith, inl, inr, length-append
 use Rattle.std.proofs.lemmas.Bool.Decides.{eqb_tells}
 use Rattle.std.proofs.lemmas.List.{get_or-set_same, get_or-set_other, length-replicate}
 use Rattle.std.proofs.Math.Path.{fun_ext}
-use Rattle.awk_store.specs.Changes.{turned}
+use Rattle.awk_store.specs.Changes.{with_flag}
 use Rattle.awk_store.specs.Laws.{TurnsOn}
 use Rattle.awk_store.specs.States.{state}
 
@@ -27,7 +27,7 @@ longer on n = omega (
 )
 
 turned_by : (on : List Bool) (n : ℕ) (b : Bool) (m : ℕ) → ((m == n ≡ true) × (m ≡ n)) ⊎ ((m == n ≡ false) × (m ≢ n))
-    → (if m == n then b else get_or on m false) ≡ get_or (turned on n b) m false
+    → (if m == n then b else get_or on m false) ≡ get_or (with_flag on n b) m false
 turned_by on n b m (inl (e, same)) =
     rw (e, same) (sym (get_or-set_same (on ++ replicate ((n + 1) - length on) false) n b false (longer on n)))
 turned_by on n b m (inr (e, other)) =

@@ -143,11 +143,11 @@ row_of kept text =
 abbrev pub with_phase : Phase → Kept → Kept
 with_phase phase kept = record kept { phase = phase }
 
-abbrev pub turned : List Bool → ℕ → Bool → List Bool
-turned on n b = slice_set (on ++ replicate ((n + 1) - length on) false) n b
+abbrev pub with_flag : List Bool → ℕ → Bool → List Bool
+with_flag on n b = slice_set (on ++ replicate ((n + 1) - length on) false) n b
 
 abbrev pub with_on : ℕ → Bool → Kept → Kept
-with_on n b kept = record kept { on = turned kept.on n b }
+with_on n b kept = record kept { on = with_flag kept.on n b }
 
 abbrev pub with_main : Main → Kept → Kept
 with_main main kept = record kept { main = main }

@@ -6,7 +6,7 @@ use Rattle.awk_machine.specs.State.{State, Course, Given}
 use Rattle.awk_store.specs.Kept.{Kept}
 use Rattle.awk_store.specs.States.{Hidden, Sound, state}
 use Rattle.awk_streams.specs.Tables.{Table}
-use Rattle.awk_streams.specs.Tasks.{Tells}
+use Rattle.awk_streams.specs.Tasks.{IsTable}
 
 -- the store, and the open streams
 abbrev pub Whole : Type 0
@@ -23,7 +23,7 @@ base g w hid = state (names_in g) w.0 hid
 -- what of the three agrees: the streams are those of the events, the machine's record is the store's or the same before
 -- its fields were known, and each variable has its cell
 pub record Agreeing (g : Given) (w : Whole) (hid : Hidden) (c : Course) : Type 0 where
-  pub tells : Tells w.1 hid.taken c
+  pub tells : IsTable w.1 hid.taken c
   pub row : IsKept hid.row w.0.row
   pub cells : length w.0.cells ≡ length (names_in g)
   pub sound : Sound (names_in g)

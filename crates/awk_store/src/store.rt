@@ -1,6 +1,6 @@
 // What a run holds.
 ghost use Rattle.std.specs.Prelude.{◌≡◌, nat_lt, get_or, false, map, if◌then◌else◌, IfOk, OnOk, OnErr, IsOkUnless};
-ghost use Rattle.awk_store.specs.Changes.{first_cell, first_kept, stepped, turned, with_main, with_on, with_phase};
+ghost use Rattle.awk_store.specs.Changes.{first_cell, first_kept, stepped, with_flag, with_main, with_on, with_phase};
 ghost use Rattle.awk_store.specs.Changes.{with_status};
 ghost use Rattle.awk_store.specs.Inputs.{main_of};
 
@@ -122,7 +122,7 @@ impl Store {
         ensures ok { OnOk result (self.new ≡ with_on rule on self.old) }
         ensures err { OnErr result (self.new ≡ self.old) }
     {
-        turn(&mut self.on, rule, on)
+        set_flag(&mut self.on, rule, on)
     }
 
     /// How far the main input is read.
@@ -175,8 +175,8 @@ impl Store {
 }
 
 /// Sets the flag at this place, after as many unset ones as there must be.
-fn turn(flags: &mut Vec<bool>, at: usize, on: bool) -> Result<(), Memory>
-    ensures ok { OnOk result (flags.new.items ≡ turned flags.old.items at on) }
+fn set_flag(flags: &mut Vec<bool>, at: usize, on: bool) -> Result<(), Memory>
+    ensures ok { OnOk result (flags.new.items ≡ with_flag flags.old.items at on) }
     ensures err { OnErr result (flags.new.items ≡ flags.old.items) }
 {
     if at >= flags.len() {

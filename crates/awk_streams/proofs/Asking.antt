@@ -21,9 +21,9 @@ use Rattle.awk_machine.specs.Printing.{unless_failed}
 use Rattle.awk_machine.specs.State.{State, Course, Given}
 use Rattle.awk_machine.specs.Streams.{want, with_event, seen}
 use Rattle.awk_streams.specs.declared.halt.Halt.{Halt}
-use Rattle.awk_streams.specs.Chains.{Led, Leads}
+use Rattle.awk_streams.specs.Chains.{Follows, Leads}
 use Rattle.awk_streams.specs.Tables.{Table, open_of}
-use Rattle.awk_streams.specs.Tasks.{Answered, Refused, Tells, IsNumber, beside, Does, is_failed, looked, value_given}
+use Rattle.awk_streams.specs.Tasks.{Answered, Refused, IsTable, IsNumber, beside, MeetsTable, is_failed, looked, value_given}
 use Rattle.awk_streams.proofs.Chain.{Laws, at_once, asked, unanswered}
 use Rattle.awk_streams.proofs.Numbers.{fits_alone}
 
@@ -74,12 +74,12 @@ found_in : (c : _) (text : List ℕ) (number : ℕ) (table : Table) (es : _) →
 found_in c text number table es e f = ap (find_stream c text) e ∙ f
 
 pub number_at : (key : Key) (number : ℕ) (table : Table) (taken : Key → ℕ) (c : Course) → IsNumber key number table
-    → Tells table taken c → number_of key (open_streams c.events) ≡ number
+    → IsTable table taken c → number_of key (open_streams c.events) ≡ number
 number_at (Standard n) number table taken c is a = sym is
 number_at (Named k text) number table taken c is a = rw (found_in k text number table c.events a.streams is) refl
 
 put_asks : (g : Given) (s : State) (place : Place) (key : Key) (text : Text) (k : List Piece) (number : ℕ)
-    (table : Table) (taken : Key → ℕ) (c : Course) → IsNumber key number table → Tells table taken c →
+    (table : Table) (taken : Key → ℕ) (c : Course) → IsNumber key number table → IsTable table taken c →
     advance g (Do (Put place key text) ∷ k) (seen (beside s table taken) c) ≡ Asks (want place (Writes key text))
     (λ r. unless_failed place k r) (seen (beside s table taken) c)
 put_asks g s place (Standard n) text k number table taken c is a = refl
@@ -88,7 +88,7 @@ put_asks g s place (Named d t) text k number table taken c is a = rw (found_in d
 
 -- what is written changes no stream
 pub tells_written : (table : Table) (taken : Key → ℕ) (c : Course) (place : Place) (key : Key) (text : Text) (r : Reply)
-    → Tells table taken c → Tells table taken (with_event (want place (Writes key text)) r c)
+    → IsTable table taken c → IsTable table taken (with_event (want place (Writes key text)) r c)
 tells_written table taken c place key text r a = record {
   streams = a.streams;
   distinct = a.distinct;
@@ -98,7 +98,7 @@ tells_written table taken c place key text r a = record {
 
 -- nor does a command
 tells_ran : (table : Table) (taken : Key → ℕ) (c : Course) (place : Place) (text : Text) (r : Reply)
-    → Tells table taken c → Tells table taken (with_event (want place (Runs text)) r c)
+    → IsTable table taken c → IsTable table taken (with_event (want place (Runs text)) r c)
 tells_ran table taken c place text r a = record {
   streams = a.streams;
   distinct = a.distinct;
@@ -108,7 +108,7 @@ tells_ran table taken c place text r a = record {
 
 -- nor does a look at the environment
 tells_looked : (table : Table) (taken : Key → ℕ) (c : Course) (place : Place) (text : Text) (r : Reply)
-    → Tells table taken c → Tells table taken (with_event (want place (Looks text)) r c)
+    → IsTable table taken c → IsTable table taken (with_event (want place (Looks text)) r c)
 tells_looked table taken c place text r a = record {
   streams = a.streams;
   distinct = a.distinct;
@@ -127,7 +127,7 @@ looks_found name names k (reply.Status z) found e = ap (λ o. looked name names 
 looks_found name names k reply.Failed found e = ap (λ o. looked name names o k) e
 
 module _ {W : Type 0} {ghosts : Ghosts W} (laws : Laws ghosts) where
-  pub fits_here : (first w : W) (cs : List Call) (q : Request) (r : Reply) → Led ghosts first cs w
+  pub fits_here : (first w : W) (cs : List Call) (q : Request) (r : Reply) → Follows ghosts first cs w
       → IsFitting (ghosts.open_numbers w) q r → IsFitting (open_after cs []) q r
   fits_here first w cs q r led fits = fits_alone cs (ghosts.open_numbers first) q r
       (rw (laws.opens first w cs led.leads) at fits)
@@ -136,7 +136,7 @@ module _ {W : Type 0} {ghosts : Ghosts W} (laws : Laws ghosts) where
   pub puts : (g : Given) (s : State) (place : Place) (key : Key) (text : Text) (number : ℕ) (table : Table) (r : Reply)
       (w w' : W) → IsNumber key number table →
       Answered ghosts (record { place = place; given = false; request = request.Put number text }) w r w' →
-      Leads ghosts (beside s) Tells (λ t. s.course.used) g (Do (Put place key text)) table w
+      Leads ghosts (beside s) IsTable (λ t. s.course.used) g (Do (Put place key text)) table w
       (λ k. unless_failed place k r) table w'
   puts g s place key text number table r w w' is x =
       asked {then_ = λ k r. unless_failed place k r} (want place (Writes key text))
@@ -156,7 +156,7 @@ module _ {W : Type 0} {ghosts : Ghosts W} (laws : Laws ghosts) where
   pub put_refused : (g : Given) (s : State) (place : Place) (key : Key) (text : Text) (number : ℕ) (table : Table)
       (h : Halt) (w w' : W) {A : Type 0} {on : A → List Piece → List Piece} → IsNumber key number table →
       Refused ghosts (record { place = place; given = false; request = request.Put number text }) w h w' →
-      Does ghosts g s (Do (Put place key text)) on table w (Err h) table w'
+      MeetsTable ghosts g s (Do (Put place key text)) on table w (Err h) table w'
   put_refused g s place key text number table h w w' is x =
       rw x.is (unanswered {then_ = λ k r. unless_failed place k r} (want place (Writes key text))
       (record { place = place; given = false; request = request.Put number text }) x.by laws (at_once _ table w)
@@ -167,7 +167,7 @@ module _ {W : Type 0} {ghosts : Ghosts W} (laws : Laws ghosts) where
   -- a command was run, or not
   pub runs : (g : Given) (s : State) (place : Place) (text : Text) (table : Table) (r : Reply) (w w' : W) →
       Answered ghosts (record { place = place; given = false; request = request.System text }) w r w' →
-      Leads ghosts (beside s) Tells (λ t. s.course.used) g (Do (Run place text)) table w (λ k. give (status_of r) k)
+      Leads ghosts (beside s) IsTable (λ t. s.course.used) g (Do (Run place text)) table w (λ k. give (status_of r) k)
       table w'
   runs g s place text table r w w' y =
       asked {then_ = λ k r. give (status_of r) k} (want place (Runs text))
@@ -184,7 +184,7 @@ module _ {W : Type 0} {ghosts : Ghosts W} (laws : Laws ghosts) where
   pub run_refused : (g : Given) (s : State) (place : Place) (text : Text) (table : Table) (h : Halt)
       (w w' : W) {A : Type 0} {on : A → List Piece → List Piece} →
       Refused ghosts (record { place = place; given = false; request = request.System text }) w h w' →
-      Does ghosts g s (Do (Run place text)) on table w (Err h) table w'
+      MeetsTable ghosts g s (Do (Run place text)) on table w (Err h) table w'
   run_refused g s place text table h w w' y =
       rw y.is (unanswered {then_ = λ k r. give (status_of r) k} (want place (Runs text))
       (record { place = place; given = false; request = request.System text }) y.by laws (at_once _ table w)
@@ -194,7 +194,7 @@ module _ {W : Type 0} {ghosts : Ghosts W} (laws : Laws ghosts) where
   -- a name of the environment was looked up, or not
   pub looks : (g : Given) (s : State) (name : Text) (names : List Text) (table : Table) (r : Reply) (w w' : W) →
       Answered ghosts (record { place = nowhere; given = false; request = request.Env name }) w r w' →
-      Leads ghosts (beside s) Tells (λ t. s.course.used) g (Do (Environ (name ∷ names))) table w
+      Leads ghosts (beside s) IsTable (λ t. s.course.used) g (Do (Environ (name ∷ names))) table w
       (λ k. environ_by name (Do (Environ names) ∷ k) r) table w'
   looks g s name names table r w w' y =
       asked {then_ = λ k r. environ_by name (Do (Environ names) ∷ k) r} (want nowhere (Looks name))
@@ -211,7 +211,7 @@ module _ {W : Type 0} {ghosts : Ghosts W} (laws : Laws ghosts) where
   pub look_refused : (g : Given) (s : State) (name : Text) (names : List Text) (table : Table) (h : Halt)
       (w w' : W) {A : Type 0} {on : A → List Piece → List Piece} →
       Refused ghosts (record { place = nowhere; given = false; request = request.Env name }) w h w' →
-      Does ghosts g s (Do (Environ (name ∷ names))) on table w (Err h) table w'
+      MeetsTable ghosts g s (Do (Environ (name ∷ names))) on table w (Err h) table w'
   look_refused g s name names table h w w' y =
       rw y.is (unanswered {then_ = λ k r. environ_by name (Do (Environ names) ∷ k) r} (want nowhere (Looks name))
       (record { place = nowhere; given = false; request = request.Env name }) y.by laws (at_once _ table w)

@@ -26,7 +26,7 @@ use Rattle.awk_machine.specs.Forms.{value}
 use Rattle.awk_machine.specs.Operators.{compared, computed}
 use Rattle.awk_streams.specs.declared.halt.Halt.{Halt}
 use Rattle.awk_streams.specs.declared.halt.Halt.TheVariants as halt
-use Rattle.awk_streams.specs.Chains.{Led, Ended, at, Comes, Halted, Leads, Meets, halt_by}
+use Rattle.awk_streams.specs.Chains.{Follows, Ended, at, Comes, Halted, Leads, Meets, halt_by}
 
 pub join : {g : Given} {k l m : List Piece} {s t u : State} {c d e : Course} → Reaches g k s c l t d
     → Reaches g l t d m u e → Reaches g k s c m u e
@@ -38,8 +38,8 @@ join (seeks a e i p) q = seeks a e i (join p q)
 
 -- what of a world's law answers need
 pub record Laws {W : Type 0} (ghosts : Ghosts W) : Type 0 where
-  pub joined : (u v w : W) (xs ys : List Call) → Led ghosts u xs v → Led ghosts v ys w → Led ghosts u (xs ++ ys) w
-  pub later : (u v w : W) (xs ys : List Call) (ask : Ask) → Led ghosts u xs v → Ended ghosts v ys ask w
+  pub joined : (u v w : W) (xs ys : List Call) → Follows ghosts u xs v → Follows ghosts v ys w → Follows ghosts u (xs ++ ys) w
+  pub later : (u v w : W) (xs ys : List Call) (ask : Ask) → Follows ghosts u xs v → Ended ghosts v ys ask w
       → Ended ghosts u (xs ++ ys) ask w
   pub opens : (v w : W) (cs : List Call) → ghosts.follows v cs w
       → ghosts.open_numbers w ≡ open_after cs (ghosts.open_numbers v)
@@ -227,11 +227,11 @@ module _ {W St H : Type 0} {ghosts : Ghosts W} {base : St → H → State} {Ag :
     pub asked : {to : List Piece → List Piece} {then_ : List Piece → Reply → List Piece} {new : St} {w'' : W}
         (want : Want) (ask : Ask) (reply : Reply) → Laws ghosts → used mid ≡ used new →
         Leads ghosts base Ag used g p old w to mid w' →
-        ((first : W) (k : List Piece) (hid : H) (c : Course) → Led ghosts first (calls c.events) w' → Ag mid hid c →
+        ((first : W) (k : List Piece) (hid : H) (c : Course) → Follows ghosts first (calls c.events) w' → Ag mid hid c →
         (hid' : H) × (advance g (to k) (at ghosts base Ag used mid hid c) ≡ Asks want (then_ k)
         (at ghosts base Ag used new hid' c)) × Fits c.events want reply
         × (ask_of want (open_streams c.events) ≡ ask) × Ag new hid' (with_event want reply c)) →
-        Led ghosts w' ((ask, reply) ∷ []) w'' → Leads ghosts base Ag used g p old w (λ k. then_ k reply) new w''
+        Follows ghosts w' ((ask, reply) ∷ []) w'' → Leads ghosts base Ag used g p old w (λ k. then_ k reply) new w''
     asked {w'' = w''} want ask reply law same h e after = record {
       plays = λ first k hid c a. let x = h.plays first k hid c a in
           let y = e first k x.hidden x.course x.knows.leads x.knows.agrees in
@@ -240,7 +240,7 @@ module _ {W St H : Type 0} {ghosts : Ghosts W} {base : St → H → State} {Ag :
             hidden = y.0;
             knows = record {
               leads = law.joined first w' w'' (calls x.course.events) _ x.knows.leads
-                  (subst (λ z. Led ghosts w' ((z, reply) ∷ []) w'') (sym y.3) after);
+                  (subst (λ z. Follows ghosts w' ((z, reply) ∷ []) w'') (sym y.3) after);
               agrees = y.4;
               spent = x.knows.spent ∙ same;
             };
@@ -250,7 +250,7 @@ module _ {W St H : Type 0} {ghosts : Ghosts W} {base : St → H → State} {Ag :
 
     -- the world has changed by no call
     pub stalls : {to : List Piece → List Piece} {w'' : W} → Laws ghosts → Leads ghosts base Ag used g p old w to mid w'
-        → Led ghosts w' [] w'' → Leads ghosts base Ag used g p old w to mid w''
+        → Follows ghosts w' [] w'' → Leads ghosts base Ag used g p old w to mid w''
     stalls {w'' = w''} law h f = record {
       plays = λ first k hid c a. let x = h.plays first k hid c a in
           record {
@@ -364,7 +364,7 @@ module _ {W St H : Type 0} {ghosts : Ghosts W} {base : St → H → State} {Ag :
         ((k : List Piece) (hid : H) (c : Course) → Ag mid hid c →
         (t : State) × (advance g (q k ∷ to k) (at ghosts base Ag used mid hid c) ≡ Asks want (then_ k) t)
         × (ask_of want (open_streams c.events) ≡ ask)) →
-        (by ≡ stops.Memory → Led ghosts w' [] w'') → (by ≡ stops.Log → Ended ghosts w' [] ask w'')
+        (by ≡ stops.Memory → Follows ghosts w' [] w'') → (by ≡ stops.Log → Ended ghosts w' [] ask w'')
         → Meets ghosts base Ag used g p on old w (Err (halt_by want.place by)) mid w''
     unanswered {w'' = w''} want ask stops.Memory law h e f l = lacking (stalls law h (f refl))
     unanswered {w'' = w''} want ask stops.Log law h e f l = record {

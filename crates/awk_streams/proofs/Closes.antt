@@ -26,7 +26,7 @@ use Rattle.awk_streams.specs.declared.halt.Halt.{Halt}
 use Rattle.awk_streams.specs.Chains.{Leads, Meets}
 use Rattle.awk_streams.specs.Closings.{first_of, first_status, shut_status}
 use Rattle.awk_streams.specs.Tables.{Table, Entry, open_of, find_input, entries_without}
-use Rattle.awk_streams.specs.Tasks.{Answered, Refused, Distinct, Tells, IsRead, Owns, beside, input_at}
+use Rattle.awk_streams.specs.Tasks.{Answered, Refused, Distinct, IsTable, IsRead, Owns, beside, input_at}
 use Rattle.awk_streams.proofs.Asking.{fits_here, number_at}
 use Rattle.awk_streams.proofs.Chain.{Laws, asked, changes, done, unanswered}
 use Rattle.awk_streams.proofs.Numbers.{among_all, found_once, times-without, times-without_stream}
@@ -176,8 +176,8 @@ input_without c text d t input (e ∷ es) u h = by (is_named d t e.stream) (is_n
         rest (sym (ap (λ z. if z then Some e.input else find_input d t (entries_without c text es)) f) ∙ x)
 
 pub tells_closed : (place : Place) (c : Class) (text : Text) (old new : Table) (taken : Key → ℕ) (co : Course)
-    (r : Reply) → new.entries ≡ entries_without c text old.entries → new.input ≡ old.input → Tells old taken co →
-    Tells new taken (with_event (want place (Shuts (Named c text))) r co)
+    (r : Reply) → new.entries ≡ entries_without c text old.entries → new.input ≡ old.input → IsTable old taken co →
+    IsTable new taken (with_event (want place (Shuts (Named c text))) r co)
 tells_closed place c text old new taken co r es same a = record {
   streams = streams;
   distinct = distinct;
@@ -240,16 +240,16 @@ shorter text c n (e ∷ es) h = by (is_named c text e.stream) h (shorter text c 
 module _ {W : Type 0} {ghosts : Ghosts W} (laws : Laws ghosts) (g : Given) (s : State) (place : Place)
     (text : Text) where
   at_first : (c : Class) (n : ℕ) (table : Table) (taken : Key → ℕ) (co : Course) → first_of text table.entries
-      ≡ Some (c, n) → Tells table taken co →
+      ≡ Some (c, n) → IsTable table taken co →
       first_stream text (open_streams co.events) ≡ Some (record { class = c; text = text; number = n })
   at_first c n table taken co h a = ap (first_stream text) a.streams ∙ first_is text c n table.entries h
 
   found_at : (c : Class) (n : ℕ) (table : Table) (taken : Key → ℕ) (co : Course) → first_of text table.entries
-      ≡ Some (c, n) → Tells table taken co → find_stream c text (open_streams co.events) ≡ Some n
+      ≡ Some (c, n) → IsTable table taken co → find_stream c text (open_streams co.events) ≡ Some n
   found_at c n table taken co h a = ap (find_stream c text) a.streams ∙ first_found text c n table.entries h
 
   close_asks : (so_far : Option Value) (k : List Piece) (c : Class) (n : ℕ) (table : Table) (taken : Key
-      → ℕ) (co : Course) → first_of text table.entries ≡ Some (c, n) → Tells table taken co →
+      → ℕ) (co : Course) → first_of text table.entries ≡ Some (c, n) → IsTable table taken co →
       advance g (Do (Close place text so_far) ∷ k) (seen (beside s table taken) co)
       ≡ Asks (want place (Shuts (Named c text)))
       (λ r. Do (Close place text (Some (first_answer so_far (shut_answer r)))) ∷ k) (seen (beside s table taken) co)
@@ -264,8 +264,8 @@ module _ {W : Type 0} {ghosts : Ghosts W} (laws : Laws ghosts) (g : Given) (s : 
       (r : Reply) (w w' : W) → first_of text table.entries ≡ Some (c, n) →
       new.entries ≡ entries_without c text table.entries → new.input ≡ table.input
       → Answered ghosts (record { place = place; given = false; request = request.Shut n }) w r w' →
-      Leads ghosts (beside s) Tells (λ t. s.course.used) g p old first (λ k. Do (Close place text so_far) ∷ k) table w →
-      Leads ghosts (beside s) Tells (λ t. s.course.used) g p old first
+      Leads ghosts (beside s) IsTable (λ t. s.course.used) g p old first (λ k. Do (Close place text so_far) ∷ k) table w →
+      Leads ghosts (beside s) IsTable (λ t. s.course.used) g p old first
       (λ k. Do (Close place text (Some (first_answer so_far (shut_answer r)))) ∷ k) new w'
   close_one so_far table new c n r w w' h es same x lead =
       asked {then_ = λ k r. Do (Close place text (Some (first_answer so_far (shut_answer r)))) ∷ k}
@@ -285,8 +285,8 @@ module _ {W : Type 0} {ghosts : Ghosts W} (laws : Laws ghosts) (g : Given) (s : 
       (so_far : Option Value) (table : Table) (c : Class) (n : ℕ) (h : Halt) (w w' : W) → first_of text table.entries
       ≡ Some (c, n) →
       Refused ghosts (record { place = place; given = false; request = request.Shut n }) w h w' →
-      Leads ghosts (beside s) Tells (λ t. s.course.used) g p old first (λ k. Do (Close place text so_far) ∷ k) table w →
-      Meets ghosts (beside s) Tells (λ t. s.course.used) g p on old first (Err h) table w'
+      Leads ghosts (beside s) IsTable (λ t. s.course.used) g p old first (λ k. Do (Close place text so_far) ∷ k) table w →
+      Meets ghosts (beside s) IsTable (λ t. s.course.used) g p on old first (Err h) table w'
   close_refused so_far table c n h w w' e x lead =
       rw x.is (unanswered {q = λ k. Do (Close place text so_far)} {to = λ k. k} {then_ =
       λ k r. Do (Close place text (Some (first_answer so_far (shut_answer r)))) ∷ k}
@@ -303,8 +303,8 @@ module _ {W : Type 0} {ghosts : Ghosts W} (laws : Laws ghosts) (g : Given) (s : 
   -- none is left
   pub close_done : {p : Piece} {old : Table} {first : W} (so_far : Option Value) (answer : Value) (table : Table)
       (w : W) → answer ≡ answer_or so_far → first_of text table.entries ≡ None →
-      Leads ghosts (beside s) Tells (λ t. s.course.used) g p old first (λ k. Do (Close place text so_far) ∷ k) table w →
-      Meets ghosts (beside s) Tells (λ t. s.course.used) g p give old first (Ok answer) table w
+      Leads ghosts (beside s) IsTable (λ t. s.course.used) g p old first (λ k. Do (Close place text so_far) ∷ k) table w →
+      Meets ghosts (beside s) IsTable (λ t. s.course.used) g p give old first (Ok answer) table w
   close_done so_far answer table w is none lead =
       rw is (done (changes {then_ = λ k. give (answer_or so_far) k} refl lead (λ k taken co a. (
         taken,

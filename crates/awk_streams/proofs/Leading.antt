@@ -22,7 +22,7 @@ use Rattle.awk_machine.specs.Streams.{seen}
 use Rattle.awk_streams.specs.declared.halt.Halt.{Halt}
 use Rattle.awk_streams.specs.Chains.{Leads, Meets}
 use Rattle.awk_streams.specs.Tables.{Table, Entry, open_of}
-use Rattle.awk_streams.specs.Tasks.{Refused, Opening, Opens, Tells, IsSame, Owns, beside, Does, fetched, number_opened}
+use Rattle.awk_streams.specs.Tasks.{Refused, Opening, Opens, IsTable, IsSame, Owns, beside, MeetsTable, fetched, number_opened}
 use Rattle.awk_streams.specs.Tasks.{entries_opened}
 use Rattle.awk_streams.proofs.Asking.{fits_here}
 use Rattle.awk_streams.proofs.Chain.{Laws, at_once, asked, done, known, settled, turned, unanswered}
@@ -103,7 +103,7 @@ module _ (g : Given) (p : Piece) (place : Place) (given : Bool) (mode : Mode) (c
 
   module _ {W : Type 0} {ghosts : Ghosts W} (laws : Laws ghosts) where
     pub open_known : (n : ℕ) (table : Table) (w : W) → find_stream c text (open_of table) ≡ Some n →
-        Leads ghosts (beside s) Tells (λ t. s.course.used) g p table w (λ k. then_ k (reply.Opened n)) table w
+        Leads ghosts (beside s) IsTable (λ t. s.course.used) g p table w (λ k. then_ k (reply.Opened n)) table w
     open_known n table w e =
         known then_ (reply.Opened n) (at_once p table w) (λ k taken co a. stays_open k n table taken co
         (ap (find_stream c text) a.streams ∙ e))
@@ -111,7 +111,7 @@ module _ (g : Given) (p : Piece) (place : Place) (given : Bool) (mode : Mode) (c
     pub open_asked : (found : Option ℕ) (table new : Table) (w w' : W) → find_stream c text (open_of table) ≡ None →
         (x : Opening ghosts (record { place = place; given = given; request = request.Open mode text }) c text table w
         found new w') →
-        Leads ghosts (beside s) Tells (λ t. s.course.used) g p table w (λ k. then_ k x.reply) new w'
+        Leads ghosts (beside s) IsTable (λ t. s.course.used) g p table w (λ k. then_ k x.reply) new w'
     open_asked found table new w w' none x =
         asked {then_ = then_} (opening place given mode c text) (record {
           place = place;
@@ -131,7 +131,7 @@ module _ (g : Given) (p : Piece) (place : Place) (given : Bool) (mode : Mode) (c
     pub open_refused : (h : Halt) (table new : Table) (w w' : W) {A : Type 0} {on : A → List Piece → List Piece}
         → find_stream c text (open_of table) ≡ None → IsSame table new →
         Refused ghosts (record { place = place; given = given; request = request.Open mode text }) w h w' →
-        Meets ghosts (beside s) Tells (λ t. s.course.used) g p on table w (Err h) new w'
+        Meets ghosts (beside s) IsTable (λ t. s.course.used) g p on table w (Err h) new w'
     open_refused h table new w w' none same x =
         rw x.is (unanswered {then_ = then_} (opening place given mode c text)
         (record { place = place; given = given; request = request.Open mode text }) x.by laws
@@ -183,7 +183,7 @@ module _ {W : Type 0} {ghosts : Ghosts W} (laws : Laws ghosts) where
       (r : Result (Option ℕ) Halt) → find_stream c text (open_of table) ≡ None →
       Opens ghosts (record { place = place; given = false; request = request.Open (input_mode c) text }) c text table w
       r new w' →
-      Does ghosts g s (Do (Fetch place c text)) (fetched place (Named c text)) table w r new w'
+      MeetsTable ghosts g s (Do (Fetch place c text)) (fetched place (Named c text)) table w r new w'
   input_asked g s place c text table new w w' (Ok found) none x =
       done (turned (open_asked g (Do (Fetch place c text)) place false (input_mode c) c text
       (read_opened place (Named c text)) (λ k t. refl) s laws found table new w w' none x)

@@ -9,12 +9,12 @@ use Rattle.awk_streams.specs.declared.halt.Halt.{Halt}
 use Rattle.awk_streams.specs.declared.halt.Halt.TheVariants as halt
 use Rattle.awk_streams.specs.Chains.{Comes, Halted, Meets}
 use Rattle.awk_streams.specs.Tables.{Table}
-use Rattle.awk_streams.specs.Tasks.{Does, Tells, Agrees, beside, whole}
+use Rattle.awk_streams.specs.Tasks.{MeetsTable, IsTable, Agrees, beside, whole}
 
 module _ {W R : Type 0} (ghosts : Ghosts W) (base : R → Row → State) (Sound : R → Row → Type 0) (used : R
     → ℕ) (g : Given) (r : R) (row : Row) (sound : Sound r row) where
   lift_comes : (first w : W) (from k : List Piece) (s : State) (c : Course) (t : Table) →
-      Comes ghosts (beside (record (base r row) { course = record { events = []; used = used r } })) Tells
+      Comes ghosts (beside (record (base r row) { course = record { events = []; used = used r } })) IsTable
       (λ x. used r) g first from s c k t w →
       Comes ghosts (whole base) (Agrees Sound) (λ x. used x.0) g first from s c k (r, t) w
   lift_comes first w from k s c t x = record {
@@ -25,7 +25,7 @@ module _ {W R : Type 0} (ghosts : Ghosts W) (base : R → Row → State) (Sound 
   }
 
   lift_halted : (h : Halt) (first w : W) (from k : List Piece) (s : State) (c : Course) (t : Table) →
-      Halted ghosts (beside (record (base r row) { course = record { events = []; used = used r } })) Tells
+      Halted ghosts (beside (record (base r row) { course = record { events = []; used = used r } })) IsTable
       (λ x. used r) g first from s c k t w h →
       Halted ghosts (whole base) (Agrees Sound) (λ x. used x.0) g first from s c k (r, t) w h
   unfolding lift_comes
@@ -58,9 +58,9 @@ module _ {W R : Type 0} (ghosts : Ghosts W) (base : R → Row → State) (Sound 
   lift_result : {A : Type 0} (result : Result A Halt) (to : A → List Piece → List Piece) (first w : W)
       (from k : List Piece) (s : State) (c : Course) (t : Table) →
       MatchResult result (λ x. Comes ghosts
-      (beside (record (base r row) { course = record { events = []; used = used r } })) Tells (λ y. used r) g first
+      (beside (record (base r row) { course = record { events = []; used = used r } })) IsTable (λ y. used r) g first
       from s c (to x k) t w)
-      (λ h. Halted ghosts (beside (record (base r row) { course = record { events = []; used = used r } })) Tells
+      (λ h. Halted ghosts (beside (record (base r row) { course = record { events = []; used = used r } })) IsTable
       (λ y. used r) g first from s c k t w h) →
       MatchResult result (λ x. Comes ghosts (whole base) (Agrees Sound) (λ y. used y.0) g first from s c (to x k)
       (r, t) w)
@@ -72,7 +72,7 @@ module _ {W R : Type 0} (ghosts : Ghosts W) (base : R → Row → State) (Sound 
 pub lifted : {W R A : Type 0} {ghosts : Ghosts W} (base : R → Row → State) (Sound : R → Row → Type 0) (used : R
     → ℕ) (g : Given) (r : R)
     {p : Piece} {to : A → List Piece → List Piece} {old new : Table} {w w' : W} {result : Result A Halt}
-    → ((s : State) → Does ghosts g s p to old w result new w') →
+    → ((s : State) → MeetsTable ghosts g s p to old w result new w') →
     Meets ghosts (whole base) (Agrees Sound) (λ x. used x.0) g p to (r, old) w result (r, new) w'
 lifted {ghosts = ghosts} base Sound used g r {p = p} {to = to} {old = old} {new = new} {w' = w'} {result = result} h =
     record {

@@ -16,7 +16,7 @@ use Rattle.awk_streams.specs.declared.inputs.InputStream.{InputStream}
 use Rattle.awk_streams.specs.declared.inputs.InputStream.TheVariants as source
 use Rattle.awk_streams.specs.Readings.{IsLine, fetching, key_of}
 use Rattle.awk_streams.specs.Tables.{Table, kind, open_of}
-use Rattle.awk_streams.specs.Tasks.{Does, Tells, beside}
+use Rattle.awk_streams.specs.Tasks.{MeetsTable, IsTable, beside}
 use Rattle.awk_streams.proofs.Chain.{Laws, at_once}
 use Rattle.awk_streams.proofs.Leading.{open_known}
 use Rattle.awk_streams.proofs.Lives.{number_live, some_at}
@@ -25,12 +25,12 @@ use Rattle.awk_streams.proofs.MoreSteps.{gives, reads_so}
 -- the stream is open, and its record is taken
 line_fetched : {W : Type 0} {ghosts : Ghosts W} (laws : Laws ghosts) (g : Given) (s : State) (place : Place)
     (class : Class) (name text rs : Text) → own_text s (codes "RS") ≡ rs → (old new : Table) (w : W) →
-    IsLine (Named class name) rs old text new → Does ghosts g s (Do (Fetch place class name)) give old w
+    IsLine (Named class name) rs old text new → MeetsTable ghosts g s (Do (Fetch place class name)) give old w
     (Ok (v.Input text)) new w
 line_fetched {ghosts = ghosts} laws g s place class name text rs is old new w x =
     let key = Named class name in
     let number = some_at (find_stream class name (open_of old)) (number_live class name old (x.before, x.live)) in
-    let to_read : Leads ghosts (beside s) Tells (λ t. s.course.used) g (Do (Fetch place class name)) old w
+    let to_read : Leads ghosts (beside s) IsTable (λ t. s.course.used) g (Do (Fetch place class name)) old w
     (λ k. Do (Read place key) ∷ k) old w =
     open_known g (Do (Fetch place class name)) place false (input_mode class) class name (read_opened place key)
     (λ k t. refl) s laws number.0 old w number.1 in
@@ -41,7 +41,7 @@ line_fetched {ghosts = ghosts} laws g s place class name text rs is old new w x 
 -- and so of whichever stream
 pub line_at_once : {W : Type 0} {ghosts : Ghosts W} (laws : Laws ghosts) (g : Given) (s : State) (place : Place)
     (source : InputStream) (text rs : Text) → own_text s (codes "RS") ≡ rs → (old new : Table) (w : W) →
-    IsLine (key_of source) rs old text new → Does ghosts g s (Do (fetching place (key_of source))) give old w
+    IsLine (key_of source) rs old text new → MeetsTable ghosts g s (Do (fetching place (key_of source))) give old w
     (Ok (v.Input text)) new w
 line_at_once {ghosts = ghosts} laws g s place source.Standard text rs is old new w x =
     let read = gives ghosts g s place (Standard 0) rs is old new x.before x.live (reads_so g s place (Standard 0))

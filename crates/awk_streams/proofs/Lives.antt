@@ -14,7 +14,7 @@ use Rattle.awk_streams.specs.declared.inputs.InputStream.{InputStream}
 use Rattle.awk_streams.specs.declared.inputs.InputStream.TheVariants as source
 use Rattle.awk_streams.specs.Readings.{GoesOn, IsLive, key_of}
 use Rattle.awk_streams.specs.Tables.{Table, Entry, open_of, find_input, kind, with_input}
-use Rattle.awk_streams.specs.Tasks.{IsNumber, IsReadAt, IsSame, Owns, Tells, input_at}
+use Rattle.awk_streams.specs.Tasks.{IsNumber, IsReadAt, IsSame, Owns, IsTable, input_at}
 use Rattle.awk_streams.proofs.Numbers.{among_all, found_once}
 use Rattle.awk_streams.proofs.Opened.{input_same, no_input, number_eq, some_is}
 use Rattle.awk_streams.proofs.Reading.{key_is, read_at}
@@ -60,7 +60,7 @@ pub live_if : (c : Class) (t : Text) (o : Option ℕ) (table : Table)
 live_if c t (Some n) table h e = live_found c t n table h
 live_if c t None table h e = absurd (true≢false (sym e))
 
-pub live_in : (key : Key) (table : Table) (taken : Key → ℕ) (c : Course) → IsLive key table → Tells table taken c
+pub live_in : (key : Key) (table : Table) (taken : Key → ℕ) (c : Course) → IsLive key table → IsTable table taken c
     → is_live key c.events ≡ true
 live_in (Standard n) table taken c live a = refl
 live_in (Named d t) table taken c live a = ap (λ ss. is_some (find_stream d t ss)) a.streams
@@ -131,7 +131,7 @@ read_with (source.Stream name) i before table h =
 -- ---- the same is held as before
 
 pub tells_unread : (key : Key) (old new : Table) (taken : Key → ℕ) (c : Course) (before : Input)
-    → input_at key old ≡ Some before → IsReadAt key before old new → Tells old taken c → Tells new taken c
+    → input_at key old ≡ Some before → IsReadAt key before old new → IsTable old taken c → IsTable new taken c
 tells_unread key old new taken c before live r a = record {
   streams = a.streams ∙ sym r.streams;
   distinct =

@@ -27,7 +27,7 @@ use Rattle.awk_streams.specs.Chains.{Leads, Meets}
 use Rattle.awk_streams.specs.Readings.{FailsFirst, FailsOpen, FirstIs, GoesOn, HasCome, IsReading, Received, Waits}
 use Rattle.awk_streams.specs.Readings.{further, gives_read, key_of, read_further}
 use Rattle.awk_streams.specs.Tables.{Table}
-use Rattle.awk_streams.specs.Tasks.{Answered, Refused, Tells, IsNumber, IsReadAt, IsSame, Owns, beside, Does, fetched}
+use Rattle.awk_streams.specs.Tasks.{Answered, Refused, IsTable, IsNumber, IsReadAt, IsSame, Owns, beside, MeetsTable, fetched}
 use Rattle.awk_streams.specs.Tasks.{goes_on, input_at}
 use Rattle.awk_streams.proofs.Asking.{fits_here, number_at}
 use Rattle.awk_streams.proofs.Chain.{Laws, asked, at_once, changes, closed, done as finished, lacking, settled, turned}
@@ -42,8 +42,8 @@ use Rattle.awk_streams.proofs.Records.{head_moves, reads_record, reads_end, read
 -- ---- what came
 
 -- a reading that failed changes no stream
-tells_failed : (place : Place) (key : Key) (table : Table) (t : Key → ℕ) (c : Course) → Tells table t c
-    → Tells table t (with_event (want place (Reads key)) reply.Failed c)
+tells_failed : (place : Place) (key : Key) (table : Table) (t : Key → ℕ) (c : Course) → IsTable table t c
+    → IsTable table t (with_event (want place (Reads key)) reply.Failed c)
 tells_failed place key table t c a = record {
   streams = a.streams;
   distinct = a.distinct;
@@ -53,8 +53,8 @@ tells_failed place key table t c a = record {
 
 tells_reply : (place : Place) (key : Key) (old new : Table) (t : Key → ℕ) (c : Course) (before : Input) (r : Reply)
     (on : Bool) (number : ℕ) (numbers : List ℕ) → IsFitting numbers (request.Next number) r → before.ended ≡ false →
-    input_at key old ≡ Some before → Received key old new before r on → Tells old t c
-    → Tells new t (with_event (want place (Reads key)) r c)
+    input_at key old ≡ Some before → Received key old new before r on → IsTable old t c
+    → IsTable new t (with_event (want place (Reads key)) r c)
 tells_reply place key old new t c before (reply.Bytes b) on number numbers f open_ live x a =
     tells_bytes place key old new t c a before live b open_ x.1
 tells_reply place key old new t c before reply.End on number numbers f open_ live x a =
@@ -148,7 +148,7 @@ module _ {W : Type 0} {ghosts : Ghosts W} (laws : Laws ghosts)
     (is : IsNumber (key_of source) number old)
     (before : Input) (live : input_at (key_of source) old ≡ Some before)
     (waits : head (own_text s (codes "RS")) before.unread before.ended ≡ need_more) where
-  read_asks : (w : W) (k : List Piece) (t : Key → ℕ) (c : Course) → Tells old t c →
+  read_asks : (w : W) (k : List Piece) (t : Key → ℕ) (c : Course) → IsTable old t c →
       advance g (p ∷ k) (seen (beside s old t) c) ≡ Asks (want place (Reads (key_of source))) (form.then_ k)
       (seen (beside s old t) c)
   read_asks w k t c a =
@@ -161,7 +161,7 @@ module _ {W : Type 0} {ghosts : Ghosts W} (laws : Laws ghosts)
   reads_more : (new : Table) (r : Reply) (on : Bool) (w w' : W) → before.ended ≡ false
       → Received (key_of source) old new before r on →
       Answered ghosts (record { place = place; given = false; request = request.Next number }) w r w' →
-      Leads ghosts (beside s) Tells (λ t. s.course.used) g p old w (further p to on) new w'
+      Leads ghosts (beside s) IsTable (λ t. s.course.used) g p old w (further p to on) new w'
   reads_more new r on w w' open_ got x =
       turned (asked {then_ = form.then_} (want place (Reads (key_of source)))
       (record { place = place; given = false; request = request.Next number }) r laws refl (at_once p old w)
@@ -180,14 +180,14 @@ module _ {W : Type 0} {ghosts : Ghosts W} (laws : Laws ghosts)
   pub read_received : (new : Table) (r : Reply) (on : Bool) (w w' : W) → before.ended ≡ false
       → Received (key_of source) old new before r on →
       Answered ghosts (record { place = place; given = false; request = request.Next number }) w r w' →
-      Does ghosts g s p (further p to) old w (Ok on) new w'
+      MeetsTable ghosts g s p (further p to) old w (Ok on) new w'
   read_received new r on w w' open_ got x = finished (reads_more new r on w w' open_ got x)
 
   -- what came can't be held
   pub read_lacks : {A : Type 0} {on : A → List Piece → List Piece} (new : Table) (r : Reply) (w w' : W)
       → before.ended ≡ false → HasCome r →
       Answered ghosts (record { place = place; given = false; request = request.Next number }) w r w' →
-      Does ghosts g s p on old w (Err halt.Memory) new w'
+      MeetsTable ghosts g s p on old w (Err halt.Memory) new w'
   read_lacks {on = on} new r w w' open_ has x = record {
     plays = λ first k hid c a.
         let held_ = come source before old r has live in
@@ -205,7 +205,7 @@ module _ {W : Type 0} {ghosts : Ghosts W} (laws : Laws ghosts)
 
   pub read_refused : {A : Type 0} {on : A → List Piece → List Piece} (h : Halt) (w w' : W) →
       Refused ghosts (record { place = place; given = false; request = request.Next number }) w h w' →
-      Does ghosts g s p on old w (Err h) old w'
+      MeetsTable ghosts g s p on old w (Err h) old w'
   read_refused h w w' x =
       rw x.is (unanswered {then_ = form.then_} (want place (Reads (key_of source)))
       (record { place = place; given = false; request = request.Next number }) x.by laws (at_once p old w)
@@ -219,10 +219,10 @@ module _ {W : Type 0} (ghosts : Ghosts W) (g : Given) (s : State) (place : Place
     (rs_is : own_text s (codes "RS") ≡ rs)
     (mid new : Table) (before : Input) (live : input_at key mid ≡ Some before) {p q : Piece} {to : NextRecord
     → List Piece → List Piece} (form : IsReading g s q place key to) {old : Table} {first w : W}
-    (lead : Leads ghosts (beside s) Tells (λ t. s.course.used) g p old first (λ k. q ∷ k) mid w) where
+    (lead : Leads ghosts (beside s) IsTable (λ t. s.course.used) g p old first (λ k. q ∷ k) mid w) where
   gives_first : (h : Head) (x : NextRecord) → head rs before.unread before.ended ≡ h
       → FirstIs key mid new before h (Some x) →
-      Leads ghosts (beside s) Tells (λ t. s.course.used) g p old first (λ k. to x k) new w
+      Leads ghosts (beside s) IsTable (λ t. s.course.used) g p old first (λ k. to x k) new w
   gives_first (taken text rest) x e y =
       let b = behind rs before.unread before.ended text rest e in
       let z = reads_record ghosts g s place key rs rs_is mid before live form lead text rest b.0 new e b.1 y.1 in
@@ -235,7 +235,7 @@ module _ {W : Type 0} (ghosts : Ghosts W) (g : Given) (s : State) (place : Place
   gives_first too_long x e y = absurd y
 
   pub gives : (x : NextRecord) → FirstIs key mid new before (head rs before.unread before.ended) (Some x)
-      → Meets ghosts (beside s) Tells (λ t. s.course.used) g p to old first (Ok x) new w
+      → Meets ghosts (beside s) IsTable (λ t. s.course.used) g p to old first (Ok x) new w
   gives x y = finished (gives_first (head rs before.unread before.ended) x refl y)
 
   -- none is whole: more is waited for
@@ -247,14 +247,14 @@ module _ {W : Type 0} (ghosts : Ghosts W) (g : Given) (s : State) (place : Place
   waits_by too_long e y = absurd y
 
   pub still_reads : FirstIs key mid new before (head rs before.unread before.ended) None
-      → Leads ghosts (beside s) Tells (λ t. s.course.used) g p old first (λ k. q ∷ k) new w
+      → Leads ghosts (beside s) IsTable (λ t. s.course.used) g p old first (λ k. q ∷ k) new w
   still_reads y =
       let x = waits_by (head rs before.unread before.ended) refl y in
       settled refl (λ hid. refl) (λ hid c a. tells_unread key mid new hid c before live x.1 a) lead
 
   pub fails : {A : Type 0} {on : A → List Piece → List Piece} (h : Halt) → IsSame mid new
       → FailsFirst place (head rs before.unread before.ended) h →
-      Meets ghosts (beside s) Tells (λ t. s.course.used) g p on old first (Err h) new w
+      Meets ghosts (beside s) IsTable (λ t. s.course.used) g p on old first (Err h) new w
   fails h same (inl e) = rw e (lacking (settled refl (λ hid. refl) (λ hid c a. tells_same mid new hid c same a) lead))
   fails h same (inr x) =
       rw x.0 (closed (settled refl (λ hid. refl) (λ hid c a. tells_same mid new hid c same a)
@@ -319,11 +319,11 @@ minus_nothing n = omega arith
 
 pub forgets : {W : Type 0} (ghosts : Ghosts W) (g : Given) (s : State) (old new : Table) (w : W)
     → GoesOn (Standard 0) old → new.entries ≡ old.entries → new.input ≡ record { unread = []; ended = false } →
-    Meets ghosts (beside s) Tells (λ t. s.course.used) g (Do (machine.Forget (Standard 0))) (goes_on {A = Unit {0}}) old
+    Meets ghosts (beside s) IsTable (λ t. s.course.used) g (Do (machine.Forget (Standard 0))) (goes_on {A = Unit {0}}) old
     w (Ok (tt {0})) new w
 forgets ghosts g s old new w open_ es is = finished (changes refl (at_once _ old w) (λ k t c a. (
   λ other. if same_key (Standard 0) other then length (came (Standard 0) c.events) else t other,
-  subst (λ n. Tells new (λ other. if same_key (Standard 0) other then n else t other) c)
+  subst (λ n. IsTable new (λ other. if same_key (Standard 0) other then n else t other) c)
       (minus_nothing (length (came (Standard 0) c.events)))
       (tells_taken (Standard 0) old new t c old.input [] (length old.input.unread) a refl
       (sym (drop_all old.input.unread)) (read_standard (record { unread = []; ended = old.input.ended }) old new es

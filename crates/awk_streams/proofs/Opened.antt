@@ -17,7 +17,7 @@ use Rattle.awk_program.specs.Slots.{Text}
 use Rattle.awk_machine.specs.State.{Course}
 use Rattle.awk_machine.specs.Streams.{came, has_ended, same_key, with_event, with_bytes, ended_after}
 use Rattle.awk_streams.specs.Tables.{Table, Entry, open_of, find_input}
-use Rattle.awk_streams.specs.Tasks.{Distinct, Tells, IsRead, IsSame, input_at, number_opened, entries_opened}
+use Rattle.awk_streams.specs.Tasks.{Distinct, IsTable, IsRead, IsSame, input_at, number_opened, entries_opened}
 
 -- ---- keys
 
@@ -140,8 +140,8 @@ pub input_same : (key : Key) (old new : Table) → IsSame old new → input_at k
 input_same (Standard n) old new i = ap (λ x. if n == 0 then Some x else None) i.input
 input_same (Named c text) old new i = ap (find_input c text) i.entries
 
-pub tells_same : (old new : Table) (taken : Key → ℕ) (c : Course) → IsSame old new → Tells old taken c
-    → Tells new taken c
+pub tells_same : (old new : Table) (taken : Key → ℕ) (c : Course) → IsSame old new → IsTable old taken c
+    → IsTable new taken c
 tells_same old new taken c i a = record {
   streams = a.streams ∙ ap (map (λ e. e.stream)) (sym i.entries);
   distinct = rw i.entries a.distinct;
@@ -165,7 +165,7 @@ left_by mode c text (reply.Value b) e = (λ ss. refl, λ key t. refl, λ key b. 
 left_by mode c text reply.Failed e = (λ ss. refl, λ key t. refl, λ key b. refl)
 
 module _ (place : Place) (given : Bool) (mode : Mode) (c : Class) (text : Text) (old : Table) (taken : Key
-    → ℕ) (co : Course) (a : Tells old taken co) (none : find_stream c text (open_of old) ≡ None) where
+    → ℕ) (co : Course) (a : IsTable old taken co) (none : find_stream c text (open_of old) ≡ None) where
   -- a key of the name that is not open has no input
   not_open : (d : Class) (t : Text) → same_key (Named d t) (Named c text) ≡ true → find_input d t old.entries ≡ None
   not_open d t e =
@@ -174,7 +174,7 @@ module _ (place : Place) (given : Bool) (mode : Mode) (c : Class) (text : Text) 
       ((bytes_eq-Decides t text).0 b.1) ∙ none)
 
   pub tells_failed : (r : Reply) → number_opened r ≡ None
-      → Tells old (fresh c text taken) (with_event (opening place given mode c text) r co)
+      → IsTable old (fresh c text taken) (with_event (opening place given mode c text) r co)
   tells_failed r e = record {
     streams = (left_by mode c text r e).0 (open_streams co.events) ∙ a.streams;
     distinct =
@@ -214,7 +214,7 @@ module _ (place : Place) (given : Bool) (mode : Mode) (c : Class) (text : Text) 
 
   pub tells_new : (n : ℕ) (new : Table) → new.entries ≡ entries_opened c text (Some n) old.entries
       → new.input ≡ old.input →
-      Tells new (fresh c text taken) (with_event (opening place given mode c text) (reply.Opened n) co)
+      IsTable new (fresh c text taken) (with_event (opening place given mode c text) (reply.Opened n) co)
   tells_new n new es same = record {
     streams = streams;
     distinct = rw (es, map-append (λ e. e.stream) old.entries)
@@ -250,7 +250,7 @@ module _ (place : Place) (given : Bool) (mode : Mode) (c : Class) (text : Text) 
 
   pub tells_opening : (r : Reply) (found : Option ℕ) (new : Table) → number_opened r ≡ found
       → new.entries ≡ entries_opened c text found old.entries → new.input ≡ old.input →
-      Tells new (fresh c text taken) (with_event (opening place given mode c text) r co)
+      IsTable new (fresh c text taken) (with_event (opening place given mode c text) r co)
   tells_opening r None new e es same = tells_same old new (fresh c text taken)
       (with_event (opening place given mode c text) r co) (record { entries = es; input = same }) (tells_failed r e)
   tells_opening r (Some n) new e es same = rw (given_by r n e) (tells_new n new es same)

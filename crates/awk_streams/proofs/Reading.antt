@@ -14,7 +14,7 @@ use Rattle.awk_program.specs.Slots.{Text}
 use Rattle.awk_machine.specs.State.{Course}
 use Rattle.awk_machine.specs.Streams.{came, same_key, want, with_event}
 use Rattle.awk_streams.specs.Tables.{Table, Entry, find_input, with_input}
-use Rattle.awk_streams.specs.Tasks.{Tells, IsRead, IsReadAt, input_at}
+use Rattle.awk_streams.specs.Tasks.{IsTable, IsRead, IsReadAt, input_at}
 use Rattle.awk_streams.proofs.Opened.{bool_same, both, number_is, some_is}
 
 -- ---- keys
@@ -53,12 +53,12 @@ drop_within zero xs ys h = refl
 drop_within (suc n) [] ys h = absurd (omega arith)
 drop_within (suc n) (x ∷ xs) ys h = drop_within n xs ys (omega arith)
 
-module _ (place : Place) (key : Key) (old new : Table) (taken : Key → ℕ) (c : Course) (a : Tells old taken c)
+module _ (place : Place) (key : Key) (old new : Table) (taken : Key → ℕ) (c : Course) (a : IsTable old taken c)
     (before : Input) (live : input_at key old ≡ Some before) where
   -- some bytes came
   pub tells_bytes : (bytes : Text) → before.ended ≡ false
       → IsReadAt key (record { unread = before.unread ++ bytes; ended = false }) old new
-      → Tells new taken (with_event (want place (Reads key)) (reply.Bytes bytes) c)
+      → IsTable new taken (with_event (want place (Reads key)) (reply.Bytes bytes) c)
   tells_bytes bytes open_ r = record {
     streams = a.streams ∙ sym r.streams;
     distinct = rw r.streams a.distinct;
@@ -91,7 +91,7 @@ module _ (place : Place) (key : Key) (old new : Table) (taken : Key → ℕ) (c 
 
   -- the end came
   pub tells_end : IsReadAt key (record { unread = before.unread; ended = true }) old new
-      → Tells new taken (with_event (want place (Reads key)) reply.End c)
+      → IsTable new taken (with_event (want place (Reads key)) reply.End c)
   tells_end r = record {
     streams = a.streams ∙ sym r.streams;
     distinct = rw r.streams a.distinct;
@@ -117,8 +117,8 @@ module _ (place : Place) (key : Key) (old new : Table) (taken : Key → ℕ) (c 
           record { unread = x.unread; ended = rw f x.ended; within = x.within }
 
 -- nothing came
-pub tells_unread : (place : Place) (key : Key) (table : Table) (taken : Key → ℕ) (c : Course) → Tells table taken c
-    → Tells table taken (with_event (want place (Reads key)) reply.Failed c)
+pub tells_unread : (place : Place) (key : Key) (table : Table) (taken : Key → ℕ) (c : Course) → IsTable table taken c
+    → IsTable table taken (with_event (want place (Reads key)) reply.Failed c)
 tells_unread place key table taken c a = record {
   streams = a.streams;
   distinct = a.distinct;
@@ -223,9 +223,9 @@ key_same a b = bool_same (same_key a b) (same_key b a) (λ e. turn a b (key_is a
 
 -- the first record of what was held unread is taken, and the rest is left
 pub tells_taken : (key : Key) (old new : Table) (taken : Key → ℕ) (c : Course) (before : Input) (rest : Text) (m : ℕ)
-    → Tells old taken c → input_at key old ≡ Some before → rest ≡ drop m before.unread →
+    → IsTable old taken c → input_at key old ≡ Some before → rest ≡ drop m before.unread →
     IsReadAt key (record { unread = rest; ended = before.ended }) old new
-    → Tells new (λ other. if same_key key other then length (came key c.events) - length rest else taken other) c
+    → IsTable new (λ other. if same_key key other then length (came key c.events) - length rest else taken other) c
 tells_taken key old new taken c before rest m a live is r = record {
   streams = a.streams ∙ sym r.streams;
   distinct =

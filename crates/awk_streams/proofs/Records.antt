@@ -19,7 +19,7 @@ use Rattle.awk_streams.specs.declared.getline.NextRecord.{NextRecord}
 use Rattle.awk_streams.specs.declared.getline.NextRecord.TheVariants as found
 use Rattle.awk_streams.specs.Readings.{IsReading}
 use Rattle.awk_streams.specs.Tables.{Table}
-use Rattle.awk_streams.specs.Tasks.{Tells, IsReadAt, beside, input_at}
+use Rattle.awk_streams.specs.Tasks.{IsTable, IsReadAt, beside, input_at}
 use Rattle.awk_streams.proofs.Chain.{changes}
 use Rattle.awk_streams.proofs.Reading.{tells_taken}
 
@@ -27,7 +27,7 @@ module _ {W : Type 0} (ghosts : Ghosts W) (g : Given) (s : State) (place : Place
     (rs_is : own_text s (codes "RS") ≡ rs) (mid : Table) (before : Input)
     (live : input_at key mid ≡ Some before) where
   -- the machine's first record is the reader's
-  pub head_is : (k : Key → ℕ) (c : Course) → Tells mid k c → first_record key (seen (beside s mid k) c)
+  pub head_is : (k : Key → ℕ) (c : Course) → IsTable mid k c → first_record key (seen (beside s mid k) c)
       ≡ head rs before.unread before.ended
   head_is k c a =
       let x = a.inputs key before live in
@@ -35,10 +35,10 @@ module _ {W : Type 0} (ghosts : Ghosts W) (g : Given) (s : State) (place : Place
       ∙ ap (λ u. head rs u (has_ended key c.events)) (sym x.unread) ∙ ap (head rs before.unread) (sym x.ended)
 
   module _ {p q : Piece} {to : NextRecord → List Piece → List Piece} (form : IsReading g s q place key to) {old : Table}
-      {first w : W} (lead : Leads ghosts (beside s) Tells (λ t. s.course.used) g p old first (λ k. q ∷ k) mid w) where
+      {first w : W} (lead : Leads ghosts (beside s) IsTable (λ t. s.course.used) g p old first (λ k. q ∷ k) mid w) where
     -- the machine's move, where this stands first
     pub head_moves : (h : Head) → head rs before.unread before.ended ≡ h → (k : List Piece) (t : Key → ℕ) (c : Course)
-        → Tells mid t c →
+        → IsTable mid t c →
         advance g (q ∷ k) (seen (beside s mid t) c) ≡ held g (seen (beside s mid t) c)
         (form.by_head h k (seen (beside s mid t) c))
     head_moves h e k t c a = ap (held g (seen (beside s mid t) c)) (form.moves k mid t c
@@ -46,7 +46,7 @@ module _ {W : Type 0} (ghosts : Ghosts W) (g : Given) (s : State) (place : Place
 
     pub reads_record : (text rest : Text) (m : ℕ) (new : Table) → head rs before.unread before.ended ≡ taken text rest
         → rest ≡ drop m before.unread → IsReadAt key (record { unread = rest; ended = before.ended }) mid new →
-        Leads ghosts (beside s) Tells (λ t. s.course.used) g p old first (λ k. to (found.Record text) k) new w
+        Leads ghosts (beside s) IsTable (λ t. s.course.used) g p old first (λ k. to (found.Record text) k) new w
     reads_record text rest m new h is r =
         changes refl lead (λ k t c a. (
           λ other. if same_key key other then length (came key c.events) - length rest else t other,
@@ -56,7 +56,7 @@ module _ {W : Type 0} (ghosts : Ghosts W) (g : Given) (s : State) (place : Place
         ))
 
     pub reads_end : head rs before.unread before.ended ≡ done
-        → Leads ghosts (beside s) Tells (λ t. s.course.used) g p old first (λ k. to found.End k) mid w
+        → Leads ghosts (beside s) IsTable (λ t. s.course.used) g p old first (λ k. to found.End k) mid w
     reads_end h = changes refl lead (λ k t c a. (
       t,
       a,
@@ -65,7 +65,7 @@ module _ {W : Type 0} (ghosts : Ghosts W) (g : Given) (s : State) (place : Place
     ))
 
     pub reads_long : head rs before.unread before.ended ≡ too_long
-        → Leads ghosts (beside s) Tells (λ t. s.course.used) g p old first (λ k. ends (Faulted TextTooLong place)) mid w
+        → Leads ghosts (beside s) IsTable (λ t. s.course.used) g p old first (λ k. ends (Faulted TextTooLong place)) mid w
     reads_long h = changes refl lead
         (λ k t c a. (
           t,

@@ -21,7 +21,7 @@ use Rattle.awk_machine.specs.Streams.{seen, want, with_event}
 use Rattle.awk_streams.specs.declared.halt.Halt.{Halt}
 use Rattle.awk_streams.specs.Chains.{Leads, Meets}
 use Rattle.awk_streams.specs.Tables.{Table, Entry, open_of, find_input}
-use Rattle.awk_streams.specs.Tasks.{Answered, Refused, Distinct, Tells, IsRead, Owns, beside, closing, left_of}
+use Rattle.awk_streams.specs.Tasks.{Answered, Refused, Distinct, IsTable, IsRead, Owns, beside, closing, left_of}
 use Rattle.awk_streams.specs.Tasks.{input_at, one_if, times}
 use Rattle.awk_streams.proofs.Asking.{fits_here}
 use Rattle.awk_streams.proofs.Chain.{Laws, asked, unanswered}
@@ -36,8 +36,8 @@ hidden_by d t e es input false f none h = h
 
 -- the first of the streams is shut
 pub tells_shut : (place : Place) (e : Entry) (es : List Entry) (old new : Table) (taken : Key → ℕ) (co : Course)
-    (r : Reply) → old.entries ≡ e ∷ es → new.entries ≡ es → new.input ≡ old.input → Tells old taken co →
-    Tells new taken (with_event (want place (Shuts (Named e.stream.class e.stream.text))) r co)
+    (r : Reply) → old.entries ≡ e ∷ es → new.entries ≡ es → new.input ≡ old.input → IsTable old taken co →
+    IsTable new taken (with_event (want place (Shuts (Named e.stream.class e.stream.text))) r co)
 tells_shut place e es old new taken co r i j same a = record { streams = streams; distinct = distinct; inputs = inputs }
   where
     all : open_of old ≡ e.stream ∷ map (λ x. x.stream) es
@@ -108,11 +108,11 @@ first_owns numbers after table new n r h j is owns = λ m.
 
 module _ {W : Type 0} {ghosts : Ghosts W} (laws : Laws ghosts) (g : Given) (s : State) (o : Outcome) where
   number_first : (e : Entry) (es : List Entry) (table : Table) (taken : Key → ℕ) (co : Course) → table.entries ≡ e ∷ es
-      → Tells table taken co → open_streams co.events ≡ e.stream ∷ map (λ x. x.stream) es
+      → IsTable table taken co → open_streams co.events ≡ e.stream ∷ map (λ x. x.stream) es
   number_first e es table taken co i a = a.streams ∙ ap (map (λ x. x.stream)) i
 
   shuts : (k : List Piece) (e : Entry) (es : List Entry) (table : Table) (taken : Key → ℕ) (co : Course)
-      → table.entries ≡ e ∷ es → Tells table taken co →
+      → table.entries ≡ e ∷ es → IsTable table taken co →
       advance g (Do (Closing o) ∷ k) (seen (beside s table taken) co)
       ≡ Asks (want nowhere (Shuts (Named e.stream.class e.stream.text))) (λ r. ends o)
       (seen (beside s table taken) co)
@@ -128,7 +128,7 @@ module _ {W : Type 0} {ghosts : Ghosts W} (laws : Laws ghosts) (g : Given) (s : 
       f
 
   asks_shut : (e : Entry) (es : List Entry) (table : Table) (taken : Key → ℕ) (co : Course) (n : ℕ)
-      → table.entries ≡ e ∷ es → e.stream.number ≡ n → Tells table taken co →
+      → table.entries ≡ e ∷ es → e.stream.number ≡ n → IsTable table taken co →
       number_of (Named e.stream.class e.stream.text) (open_streams co.events) ≡ n
   asks_shut e es table taken co n i j a =
       ap (λ ss. unwrap_or (find_stream e.stream.class e.stream.text ss) no_stream)
@@ -140,8 +140,8 @@ module _ {W : Type 0} {ghosts : Ghosts W} (laws : Laws ghosts) (g : Given) (s : 
       → option_map (λ e. e.stream.number) (slice_get table.entries 0) ≡ Some n →
       new.entries ≡ drop 1 table.entries → new.input ≡ table.input
       → Answered ghosts (record { place = nowhere; given = false; request = request.Shut n }) w r w' →
-      Leads ghosts (beside s) Tells (λ t. s.course.used) g p old first (closing o any) table w →
-      Leads ghosts (beside s) Tells (λ t. s.course.used) g p old first (closing o true) new w'
+      Leads ghosts (beside s) IsTable (λ t. s.course.used) g p old first (closing o any) table w →
+      Leads ghosts (beside s) IsTable (λ t. s.course.used) g p old first (closing o true) new w'
   shut_one any table new n r w w' h j same x lead =
       let f = first_of table n h in
       asked {to = closing o any} {then_ = λ k r. ends o} (want nowhere (Shuts (Named f.0.stream.class f.0.stream.text)))
@@ -160,8 +160,8 @@ module _ {W : Type 0} {ghosts : Ghosts W} (laws : Laws ghosts) (g : Given) (s : 
       (table : Table) (n : ℕ) (h : Halt) (w w' : W) → option_map (λ e. e.stream.number) (slice_get table.entries 0)
       ≡ Some n →
       Refused ghosts (record { place = nowhere; given = false; request = request.Shut n }) w h w' →
-      Leads ghosts (beside s) Tells (λ t. s.course.used) g p old first (closing o any) table w →
-      Meets ghosts (beside s) Tells (λ t. s.course.used) g p on old first (Err h) table w'
+      Leads ghosts (beside s) IsTable (λ t. s.course.used) g p old first (closing o any) table w →
+      Meets ghosts (beside s) IsTable (λ t. s.course.used) g p on old first (Err h) table w'
   shut_refused any table n h w w' e x lead =
       let f = first_of table n e in
       rw x.is (unanswered {q = λ k. Do (Closing o)} {to = left_of any} {then_ = λ k r. ends o}

@@ -20,7 +20,7 @@ use Rattle.awk_streams.specs.declared.halt.Halt.TheVariants as halt
 -- ---- worlds
 
 -- the one world led to the other by these calls, and stopped no more than it had
-pub record Led {W : Type 0} (ghosts : Ghosts W) (old : W) (cs : List Call) (new : W) : Type 0 where
+pub record Follows {W : Type 0} (ghosts : Ghosts W) (old : W) (cs : List Call) (new : W) : Type 0 where
   pub leads : ghosts.follows old cs new
   pub same : ghosts.has_stopped new ≡ ghosts.has_stopped old
 
@@ -54,7 +54,7 @@ module _ {W St H : Type 0} (ghosts : Ghosts W) (base : St → H → State) (Agre
   at store hid c = seen (base store hid) c
 
   pub record Knows (first : W) (store : St) (hid : H) (c : Course) (world : W) : Type 0 where
-    pub leads : Led ghosts first (calls c.events) world
+    pub leads : Follows ghosts first (calls c.events) world
     pub agrees : Agreeing store hid c
     pub spent : c.used ≡ used store
 
@@ -73,7 +73,7 @@ module _ {W St H : Type 0} (ghosts : Ghosts W) (base : St → H → State) (Agre
       pub todo : List Piece
       pub last : State
       pub course : Course
-      pub leads : Led ghosts first (calls course.events) world
+      pub leads : Follows ghosts first (calls course.events) world
       pub spent : course.used ≡ used store
       pub chain : Reaches g from s c todo last course
       pub stands : (place : Place) → Stands g todo last course (Faulted NoMemory place) None

@@ -22,19 +22,19 @@ use Rattle.awk_machine.specs.Pieces.{nowhere, Piece, Do, Read, Set, Element, Env
 use Rattle.awk_machine.specs.State.{State, Course, Given}
 use Rattle.awk_machine.specs.Streams.{came, has_ended, same_key}
 use Rattle.awk_streams.specs.declared.halt.Halt.{Halt}
-use Rattle.awk_streams.specs.Chains.{Led, Ended, Meets, halt_by}
+use Rattle.awk_streams.specs.Chains.{Follows, Ended, Meets, halt_by}
 use Rattle.awk_streams.specs.Tables.{Table, Entry, open_of, find_input}
 
 -- ---- one request
 
 pub record Answered {W : Type 0} (ghosts : Ghosts W) (ask : Ask) (old : W) (reply : Reply) (new : W) : Type 0 where
-  pub call : Led ghosts old ((ask, reply) ∷ []) new
+  pub call : Follows ghosts old ((ask, reply) ∷ []) new
   pub fits : IsFitting (ghosts.open_numbers old) ask.request reply
 
 pub record Refused {W : Type 0} (ghosts : Ghosts W) (ask : Ask) (old : W) (h : Halt) (new : W) : Type 0 where
   pub by : Stop
   pub is : h ≡ halt_by ask.place by
-  pub memory : by ≡ stop.Memory → Led ghosts old [] new
+  pub memory : by ≡ stop.Memory → Follows ghosts old [] new
   pub log : by ≡ stop.Log → Ended ghosts old [] ask new
 
 abbrev pub Answers : {W : Type 0} → Ghosts W → Ask → W → Result Reply Halt → W → Type 0
@@ -69,7 +69,7 @@ Distinct [] = Unit {0}
 Distinct (s ∷ ss) = (find_stream s.class s.text ss ≡ None) × Distinct ss
 
 -- the table is what the events say
-pub record Tells (table : Table) (taken : Key → ℕ) (c : Course) : Type 0 where
+pub record IsTable (table : Table) (taken : Key → ℕ) (c : Course) : Type 0 where
   pub streams : open_streams c.events ≡ open_of table
   pub distinct : Distinct (open_of table)
   pub inputs : (key : Key) (input : Input) → input_at key table ≡ Some input → IsRead key input (taken key) c
@@ -84,10 +84,10 @@ abbrev pub beside : State → Table → (Key → ℕ) → State
 beside s table taken = record s { taken = taken }
 
 -- what a task owes, for a table, and whatever else the machine holds
-abbrev pub Does : {W A : Type 0} → Ghosts W → Given → State → Piece → (A → List Piece → List Piece) → Table → W →
+abbrev pub MeetsTable : {W A : Type 0} → Ghosts W → Given → State → Piece → (A → List Piece → List Piece) → Table → W →
     Result A Halt → Table → W → Type 0
-Does ghosts g s p to old w result new w' =
-    Meets ghosts (beside s) Tells (λ table. s.course.used) g p to old w result new w'
+MeetsTable ghosts g s p to old w result new w' =
+    Meets ghosts (beside s) IsTable (λ table. s.course.used) g p to old w result new w'
 
 abbrev pub goes_on : {A : Type 0} → A → List Piece → List Piece
 goes_on x k = k
@@ -170,7 +170,7 @@ whole base x hid = record (base x.0 hid.row) { taken = hid.taken }
 
 -- the store is sound, and the table is what the events say
 abbrev pub Agrees : {R : Type 0} → (R → Row → Type 0) → R × Table → Hidden → Course → Type 0
-Agrees Sound x hid c = Tells x.1 hid.taken c × Sound x.0 hid.row
+Agrees Sound x hid c = IsTable x.1 hid.taken c × Sound x.0 hid.row
 
 -- ---- an output
 

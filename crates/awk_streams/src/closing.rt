@@ -7,7 +7,7 @@ ghost use Rattle.box_world.specs.Calls.{IsStream, without};
 ghost use Rattle.box_world.specs.declared.ask.Request.TheVariants.{Shut};
 ghost use Rattle.awk_streams.specs.Closings as spec;
 ghost use Rattle.awk_streams.specs.Closings.{Shuts};
-ghost use Rattle.awk_streams.specs.Tasks.{Does, Owns, closing};
+ghost use Rattle.awk_streams.specs.Tasks.{MeetsTable, Owns, closing};
 
 use crate::halt::Halt;
 use crate::requests::request;
@@ -21,7 +21,7 @@ use box_world::world::World;
 pub fn shut_all<W: World>(streams: &mut Streams, world: &mut W) -> Result<bool, Halt>
     requires { Owns (W.open_numbers world.old) streams.old }
     ensures task { (g : Given) (s : State) (o : Outcome)
-        → Does W.World g s (Do (Closing o)) (closing o) streams.old world.old result streams.new world.new }
+        → MeetsTable W.World g s (Do (Closing o)) (closing o) streams.old world.old result streams.new world.new }
     ensures none { OnOk result (streams.new.entries ≡ []) }
 {
     let place = Place { line: 0, column: 0 };
@@ -87,7 +87,7 @@ pub fn close<W: World>(
 ) -> Result<Value, Halt>
     requires { Owns (W.open_numbers world.old) streams.old }
     ensures task { (g : Given) (s : State)
-        → Does W.World g s (Do (Close place text.now None)) give streams.old world.old result streams.new world.new }
+        → MeetsTable W.World g s (Do (Close place text.now None)) give streams.old world.old result streams.new world.new }
     ensures owns { Owns (W.open_numbers world.new) streams.new }
 {
     let mut answer = None;

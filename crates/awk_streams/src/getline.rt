@@ -10,7 +10,7 @@ ghost use Rattle.awk_streams.specs.Readings as spec;
 ghost use Rattle.awk_streams.specs.Readings.{FailsFirst, FailsOpen, FirstIs, GoesOn, HasCome, Holds, IsLine, IsLive};
 ghost use Rattle.awk_streams.specs.Readings.{IsReading, Received, Waits, fetching, further, key_of, read_further};
 ghost use Rattle.awk_streams.specs.Tables.{kind};
-ghost use Rattle.awk_streams.specs.Tasks.{Does, IsSame, Owns};
+ghost use Rattle.awk_streams.specs.Tasks.{MeetsTable, IsSame, Owns};
 
 use crate::halt::Halt;
 use crate::inputs::{InputStream, finish, number, push, take};
@@ -142,7 +142,7 @@ fn more<W: World>(
     requires open { GoesOn (key_of source.now) streams.old }
     ensures task { (g : Given) (s : State) (p : Piece) (to : NextRecord → List Piece → List Piece) →
         IsReading g s p place (key_of source.now) to → Waits (own_text s (codes "RS")) (key_of source.now) streams.old
-        → Does W.World g s p (further p to) streams.old world.old result streams.new world.new }
+        → MeetsTable W.World g s p (further p to) streams.old world.old result streams.new world.new }
     ensures failed { IfOk result (λ on. on ≡ false → GoesOn (key_of source.now) streams.new) }
     ensures live { OnOk result (IsLive (key_of source.now) streams.new) }
     ensures owns { Owns (W.open_numbers world.new) streams.new }
@@ -165,7 +165,7 @@ pub fn record<W: World>(
     requires live { IsLive (key_of source.now) streams.old }
     ensures task { (g : Given) (s : State) (p : Piece) (to : NextRecord → List Piece → List Piece) →
         IsReading g s p place (key_of source.now) to → own_text s (codes "RS") ≡ rs.now
-        → Does W.World g s p to streams.old world.old result streams.new world.new }
+        → MeetsTable W.World g s p to streams.old world.old result streams.new world.new }
     ensures failed { IfOk result (λ x. FailsOpen (key_of source.now) x streams.new) }
     ensures owns { Owns (W.open_numbers world.new) streams.new }
 {
@@ -202,7 +202,7 @@ pub fn read<W: World>(
     requires owns { Owns (W.open_numbers world.old) streams.old }
     requires live { IsLive (key_of source.now) streams.old }
     ensures task { (g : Given) (s : State) → own_text s (codes "RS") ≡ rs.now
-        → Does W.World g s (Do (machine.Read place (key_of source.now))) give streams.old world.old result streams.new
+        → MeetsTable W.World g s (Do (machine.Read place (key_of source.now))) give streams.old world.old result streams.new
         world.new }
     ensures owns { Owns (W.open_numbers world.new) streams.new }
 {
@@ -219,7 +219,7 @@ fn open_named<W: World>(
     world: &mut W,
 ) -> Result<bool, Halt>
     requires { Owns (W.open_numbers world.old) streams.old }
-    ensures task { (g : Given) (s : State) → Does W.World g s
+    ensures task { (g : Given) (s : State) → MeetsTable W.World g s
         (Do (machine.Fetch place (kind name.now.class) name.now.text.now))
         (read_further place (Named (kind name.now.class) name.now.text.now)) streams.old world.old result
         streams.new world.new }
@@ -238,7 +238,7 @@ fn open_source<W: World>(
     world: &mut W,
 ) -> Result<bool, Halt>
     requires { Owns (W.open_numbers world.old) streams.old }
-    ensures task { (g : Given) (s : State) → Does W.World g s
+    ensures task { (g : Given) (s : State) → MeetsTable W.World g s
         (Do (fetching place (key_of source.now))) (read_further place (key_of source.now)) streams.old world.old result
         streams.new world.new }
     ensures live { IfOk result (λ on. on ≡ true → IsLive (key_of source.now) streams.new) }
@@ -262,7 +262,7 @@ fn fetch_any<W: World>(
 ) -> Result<Value, Halt>
     requires { Owns (W.open_numbers world.old) streams.old }
     ensures task { (g : Given) (s : State) → own_text s (codes "RS") ≡ rs.now
-        → Does W.World g s (Do (fetching place (key_of source.entry))) give streams.old world.old result streams.new
+        → MeetsTable W.World g s (Do (fetching place (key_of source.entry))) give streams.old world.old result streams.new
         world.new }
     ensures owns { Owns (W.open_numbers world.new) streams.new }
 {
@@ -284,7 +284,7 @@ pub fn fetch<W: World>(
 ) -> Result<Value, Halt>
     requires { Owns (W.open_numbers world.old) streams.old }
     ensures task { (g : Given) (s : State) → own_text s (codes "RS") ≡ rs.now
-        → Does W.World g s (Do (fetching place (key_of source.now))) give streams.old world.old result streams.new
+        → MeetsTable W.World g s (Do (fetching place (key_of source.now))) give streams.old world.old result streams.new
         world.new }
     ensures owns { Owns (W.open_numbers world.new) streams.new }
 {

@@ -7,7 +7,7 @@ ghost use Rattle.awk_machine.specs.Pieces as machine;
 ghost use Rattle.awk_machine.specs.Pieces.{Do};
 ghost use Rattle.awk_machine.specs.State.{Given, State};
 ghost use Rattle.awk_streams.specs.Tables.{kind, open_of};
-ghost use Rattle.awk_streams.specs.Tasks.{Does, Opens, Owns, fetched, goes_on};
+ghost use Rattle.awk_streams.specs.Tasks.{MeetsTable, Opens, Owns, fetched, goes_on};
 
 use crate::halt::Halt;
 use crate::requests::request;
@@ -78,7 +78,7 @@ pub fn open_output<W: World>(
     world: &mut W,
 ) -> Result<u32, Halt>
     requires { Owns (W.open_numbers world.old) streams.old }
-    ensures task { (g : Given) (s : State) → Does W.World g s
+    ensures task { (g : Given) (s : State) → MeetsTable W.World g s
         (Do (machine.Open place mode (kind name.now.class) name.now.text.now)) goes_on streams.old world.old result
         streams.new world.new }
     ensures found { IfOk result
@@ -110,7 +110,7 @@ pub fn open_input<W: World>(
     world: &mut W,
 ) -> Result<Option<u32>, Halt>
     requires { Owns (W.open_numbers world.old) streams.old }
-    ensures task { (g : Given) (s : State) → Does W.World g s
+    ensures task { (g : Given) (s : State) → MeetsTable W.World g s
         (Do (machine.Fetch place (kind name.now.class) name.now.text.now))
         (fetched place (Named (kind name.now.class) name.now.text.now)) streams.old world.old result streams.new
         world.new }

@@ -7,7 +7,7 @@ ghost use Rattle.awk_machine.specs.Builtins.{status_of};
 ghost use Rattle.awk_machine.specs.Pieces.{Do, Put, Run, Environ, give};
 ghost use Rattle.awk_machine.specs.State.{Given, State};
 ghost use Rattle.awk_streams.specs.Tables.{Table};
-ghost use Rattle.awk_streams.specs.Tasks.{Answers, Numbers, Does, IsNumber, goes_on, looked};
+ghost use Rattle.awk_streams.specs.Tasks.{Answers, Numbers, MeetsTable, IsNumber, goes_on, looked};
 
 use crate::halt::Halt;
 use awk_text::fault::Fault;
@@ -54,7 +54,7 @@ pub fn request<W: World>(
 pub fn put<W: World>(place: Place, number: u32, text: Octets, world: &mut W) -> Result<Octets, Halt>
     requires { IsStream (W.open_numbers world.old) number }
     ensures task { (g : Given) (s : State) (table : Table) (key : Key) → IsNumber key number table
-        → Does W.World g s (Do (Put place key text)) goes_on table world.old result table world.new }
+        → MeetsTable W.World g s (Do (Put place key text)) goes_on table world.old result table world.new }
     ensures text { IfOk result (λ same. same ≡ text) }
     ensures numbers { W.open_numbers world.new ≡ W.open_numbers world.old }
 {
@@ -91,7 +91,7 @@ fn is_failed(reply: &Reply) -> bool
 /// Runs a command to its end, and answers its exit status, or -1 where the world does not run it.
 pub fn system<W: World>(place: Place, command: Octets, world: &mut W) -> Result<Value, Halt>
     ensures task { (g : Given) (s : State) (table : Table)
-        → Does W.World g s (Do (Run place command)) give table world.old result table world.new }
+        → MeetsTable W.World g s (Do (Run place command)) give table world.old result table world.new }
     ensures numbers { W.open_numbers world.new ≡ W.open_numbers world.old }
 {
     let reply = request(place, false, Request::System(command), world)?;
@@ -110,7 +110,7 @@ fn status(reply: &Reply) -> Value
 /// The value of a name of the environment, if it has one.
 pub fn environment<W: World>(name: Octets, world: &mut W) -> Result<Option<Octets>, Halt>
     ensures task { (g : Given) (s : State) (table : Table) (names : List Text)
-        → Does W.World g s (Do (Environ (name ∷ names))) (looked name names) table world.old result table world.new }
+        → MeetsTable W.World g s (Do (Environ (name ∷ names))) (looked name names) table world.old result table world.new }
     ensures numbers { W.open_numbers world.new ≡ W.open_numbers world.old }
 {
     let place = Place { line: 0, column: 0 };

@@ -14,7 +14,7 @@ use Rattle.box_world.specs.Calls.{Call}
 use Rattle.box_world.specs.Events.{Event, Want, ask_of, calls, open_streams}
 use Rattle.box_world.specs.declared.ask.Ask.{Ask}
 use Rattle.box_policy.specs.Rulebook.{Rulebook}
-use Rattle.box_monitor.specs.Leads.{Leads}
+use Rattle.box_monitor.specs.Follows.{Follows}
 use Rattle.box_monitor.specs.Lines.{line_of, log_text}
 use Rattle.box_monitor.specs.Passed.{DeniedFail, told_of}
 use Rattle.box_monitor.specs.Stops.{LogEnds, Stops, StopsAtLog, StopsInside}
@@ -54,7 +54,7 @@ at_request (unlogged e) = refl
 module _ {W L : Type 0} (follows : W → List Call → W → Type 0) (has_stopped : W → Bool) (stops : W → List Call → Ask → W
     → Type 0) (contents : L → Option (List ℕ)) where
   module _ (book : Rulebook) (world : W) (log : L) (m : Watch W L) (es : List Event)
-      (leads : Leads follows has_stopped contents (fresh book world log) (calls es) m) (failed : DeniedFail book es)
+      (leads : Follows follows has_stopped contents (fresh book world log) (calls es) m) (failed : DeniedFail book es)
     where
       at_log : (want : Want) → StopsAtLog contents (fresh book world log) (calls es) (ask_of want (open_streams es)) m
           → EndsAtLog stops contents book log es want (unwrap_or m.stop Whole) m.log
@@ -114,14 +114,14 @@ module _ {W L : Type 0} (follows : W → List Call → W → Type 0) (has_stoppe
 
   -- the monitor counted what it told
   counts : (book : Rulebook) (world : W) (log : L) (m : Watch W L) (es : List Event)
-      → Leads follows has_stopped contents (fresh book world log) (calls es) m
+      → Follows follows has_stopped contents (fresh book world log) (calls es) m
       → m.denials ≡ min (length (told_of book es)) (2 ^ 64 - 1)
   counts book world log m es leads =
       one_count m.denials (length (told_of book es))
       (subst (λ t. m.denials ≡ min (0 + length t) (2 ^ 64 - 1)) (told-calls book es) (leads.denials none_before))
 
   pub drives_counted : (book : Rulebook) (g : Given) (world : W) (log : L) (o : Outcome) (used : ℕ) (m : Watch W L)
-      → Reported (Leads follows has_stopped contents) (λ (w : Watch W L). is_some w.stop) (Stops stops contents) g
+      → Reported (Follows follows has_stopped contents) (λ (w : Watch W L). is_some w.stop) (Stops stops contents) g
       (fresh book world log) o used m
       → DrivesCounted follows stops contents book g world log o used m.denials (unwrap_or m.stop Whole) m.world m.log
   drives_counted book g world log o used m r =

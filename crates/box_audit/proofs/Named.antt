@@ -12,7 +12,7 @@ use Rattle.box_audit.specs.Audit.{Audit, Grows}
 use Rattle.box_audit.specs.Audited.{audit_text, audited, audited_at, audited_of}
 use Rattle.box_audit.specs.Events.{NamesAllowed, audited_event, audited_events}
 use Rattle.box_audit.specs.Laws.{audited-append}
-use Rattle.box_audit.specs.Leads.{Leads}
+use Rattle.box_audit.specs.Follows.{Follows}
 
 -- a wish has the subject of the request that it becomes
 subject_is : (wish : Wish) (streams : List Stream) → subject_of (request_of wish streams) ≡ subject_of_wish wish
@@ -37,7 +37,7 @@ audited_calls (e ∷ es) =
 module _ {W L : Type 0} (follows : W → List Call → W → Type 0) (has_stopped : W → Bool) (contents : L → Option (List ℕ))
   where
     -- what has not stopped has written the lines of its calls
-    lines_written : (old new : Audit W L) (done : List Call) → Leads follows has_stopped contents old done new
+    lines_written : (old new : Audit W L) (done : List Call) → Follows follows has_stopped contents old done new
         → new.halt ≡ None
         → Grows contents old.log new.log (audit_text (audited done))
     lines_written old new done p going = elim p [

@@ -7,7 +7,7 @@ use Rattle.box_world.specs.declared.ask.Ask.{Ask}
 use Rattle.box_world.specs.declared.ask.Reply.{Reply}
 use Rattle.box_audit.specs.Audit.{Audit, BreaksOff}
 use Rattle.box_audit.specs.Audited.{audited_at, is_failed, line_of}
-use Rattle.box_audit.specs.Leads.{GoesToLine, opens}
+use Rattle.box_audit.specs.Follows.{GoesToLine, opens}
 use Rattle.box_audit.specs.Steps.{AreLines}
 use Rattle.box_audit.specs.declared.lines.Lines.{Lines}
 

@@ -6,7 +6,7 @@ use Rattle.box_world.specs.Calls.{Call}
 use Rattle.box_world.specs.Events.{Event, calls}
 use Rattle.box_audit.specs.Audit.{Audit, Grows}
 use Rattle.box_audit.specs.Audited.{Audited, audit_text, audited_at}
-use Rattle.box_audit.specs.Leads.{Leads}
+use Rattle.box_audit.specs.Follows.{Follows}
 
 -- what is told of an event, which a policy decides on or does not
 abbrev pub audited_event : Event → Option Audited
@@ -22,5 +22,5 @@ audited_events (e ∷ es) = audited_events es ++ option_to_list (audited_event e
 abbrev pub NamesAllowed : {W L : Type 0} → (W → List Call → W → Type 0) → (W → Bool) → (L → Option (List ℕ)) → Type 0
 NamesAllowed {W} {L} follows has_stopped contents =
     (book : Rulebook) (events : List Event) (old new : Audit W L)
-    → Leads follows has_stopped contents old (calls (passed_on book events)) new → new.halt ≡ None
+    → Follows follows has_stopped contents old (calls (passed_on book events)) new → new.halt ≡ None
     → Grows contents old.log new.log (audit_text (audited_events (passed_on book events)))

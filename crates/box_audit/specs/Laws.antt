@@ -19,7 +19,7 @@ use Rattle.box_world.specs.declared.ask.Request.{Request}
 use Rattle.box_world.specs.declared.ask.Request.TheVariants.{Open, Next, Put, Shut, System, Env, Assign}
 use Rattle.box_audit.specs.Audit.{Audit, BreaksOff, Grows, halt_behind, numbers_told}
 use Rattle.box_audit.specs.Audited.{Audited, audit_text, audited, audited_at, audited_of, line_of}
-use Rattle.box_audit.specs.Leads.{Goes, GoesToLine, IsIdle, Leads, opens}
+use Rattle.box_audit.specs.Follows.{Goes, GoesToLine, IsIdle, Follows, opens}
 use Rattle.box_audit.specs.Stops.{Stops}
 use Rattle.box_audit.specs.declared.watched.Halt.{Halt}
 
@@ -105,10 +105,10 @@ numbers-kept end place (Assign name text) reply line numbers h = refl
 
 module _ {W L : Type 0} (follows : W → List Call → W → Type 0) (has_stopped : W → Bool) (contents : L → Option (List ℕ))
   where
-    pub Leads-none : ((w : W) → follows w [] w) → (a : Audit W L) → Leads follows has_stopped contents a [] a
-    Leads-none none a = by a.halt refl
+    pub Follows-none : ((w : W) → follows w [] w) → (a : Audit W L) → Follows follows has_stopped contents a [] a
+    Follows-none none a = by a.halt refl
       where
-        by : (h : Option Halt) → a.halt ≡ h → Leads follows has_stopped contents a [] a
+        by : (h : Option Halt) → a.halt ≡ h → Follows follows has_stopped contents a [] a
         by None e = inl (record {
           before = e;
           after = e;
@@ -119,21 +119,21 @@ module _ {W L : Type 0} (follows : W → List Call → W → Type 0) (has_stoppe
         by (Some halt) e = inr (inr (inr (record { before = ap is_some e; none = refl; same = refl })))
 
     -- what had stopped does nothing more
-    then-idle : (u v w : Audit W L) (xs ys : List Call) → Leads follows has_stopped contents u xs v
-        → IsIdle follows has_stopped contents v ys w → Leads follows has_stopped contents u (xs ++ ys) w
+    then-idle : (u v w : Audit W L) (xs ys : List Call) → Follows follows has_stopped contents u xs v
+        → IsIdle follows has_stopped contents v ys w → Follows follows has_stopped contents u (xs ++ ys) w
     then-idle u v w xs ys p q =
-        subst (λ z. Leads follows has_stopped contents u z w) (sym (ap (λ z. xs ++ z) q.none ∙ append-nil xs))
-        (subst (λ z. Leads follows has_stopped contents u xs z) (sym q.same) p)
+        subst (λ z. Follows follows has_stopped contents u z w) (sym (ap (λ z. xs ++ z) q.none ∙ append-nil xs))
+        (subst (λ z. Follows follows has_stopped contents u xs z) (sym q.same) p)
 
     idle-then : (u v w : Audit W L) (xs ys : List Call) → IsIdle follows has_stopped contents u xs v
-        → Leads follows has_stopped contents v ys w → Leads follows has_stopped contents u (xs ++ ys) w
+        → Follows follows has_stopped contents v ys w → Follows follows has_stopped contents u (xs ++ ys) w
     idle-then u v w xs ys p q =
-        subst (λ z. Leads follows has_stopped contents u (z ++ ys) w) (sym p.none)
-        (subst (λ z. Leads follows has_stopped contents z ys w) p.same q)
+        subst (λ z. Follows follows has_stopped contents u (z ++ ys) w) (sym p.none)
+        (subst (λ z. Follows follows has_stopped contents z ys w) p.same q)
 
     -- what has stopped goes on by no call
     not-after : (v w : Audit W L) (ys : List Call) (halt : Halt) → v.halt ≡ Some halt
-        → Leads follows has_stopped contents v ys w → IsIdle follows has_stopped contents v ys w
+        → Follows follows has_stopped contents v ys w → IsIdle follows has_stopped contents v ys w
     not-after v w ys halt h q = elim q [
       | inl a ↦ absurd (stopped a.before)
       | inr r ↦ elim r [
@@ -174,7 +174,7 @@ module _ {W L : Type 0} (follows : W → List Call → W → Type 0) (has_stoppe
       }
 
       going-then : (u v w : Audit W L) (xs ys : List Call) → Goes follows has_stopped contents u xs v
-          → Leads follows has_stopped contents v ys w → Leads follows has_stopped contents u (xs ++ ys) w
+          → Follows follows has_stopped contents v ys w → Follows follows has_stopped contents u (xs ++ ys) w
       going-then u v w xs ys p q = elim q [
         | inl a ↦ inl (Goes-then u v w xs ys p a)
         | inr r ↦ elim r [
@@ -191,9 +191,9 @@ module _ {W L : Type 0} (follows : W → List Call → W → Type 0) (has_stoppe
         ]
       ]
 
-      pub Leads-append : (u v w : Audit W L) (xs ys : List Call) → Leads follows has_stopped contents u xs v
-          → Leads follows has_stopped contents v ys w → Leads follows has_stopped contents u (xs ++ ys) w
-      Leads-append u v w xs ys p q = elim p [
+      pub Follows-append : (u v w : Audit W L) (xs ys : List Call) → Follows follows has_stopped contents u xs v
+          → Follows follows has_stopped contents v ys w → Follows follows has_stopped contents u (xs ++ ys) w
+      Follows-append u v w xs ys p q = elim p [
         | inl a ↦ going-then u v w xs ys a q
         | inr r ↦ elim r [
           | inl a ↦ then-idle u v w xs ys (inr (inl a)) (not-after v w ys halt_behind a.after q)
@@ -227,9 +227,9 @@ module _ {W L : Type 0} (follows : W → List Call → W → Type 0) (has_stoppe
           ∙ ap (λ z. numbers_told (Some (record { log_end = p.end; has_opened = opens last.0.request last.1 })) z) after
           ∙ numbers-kept p.end last.0.place last.0.request last.1 p.line numbers p.told
 
-      pub Leads-open : (v w : Audit W L) (calls : List Call) → Leads follows has_stopped contents v calls w
+      pub Follows-open : (v w : Audit W L) (calls : List Call) → Follows follows has_stopped contents v calls w
           → numbers_told w.halt (open_numbers w.world) ≡ open_after calls (numbers_told v.halt (open_numbers v.world))
-      Leads-open v w calls p = elim p [
+      Follows-open v w calls p = elim p [
         | inl a ↦ numbers-going w a.after ∙ open-going v w calls a.before a.inner
         | inr r ↦ elim r [
           | inl a ↦ ap (λ z. numbers_told z (open_numbers w.world)) a.after ∙ open-going v w calls a.before a.inner
@@ -263,7 +263,7 @@ module _ {W L : Type 0} (follows : W → List Call → W → Type 0) (has_stoppe
           going : is_some v.halt ≡ true → ⊥
           going e = let h : is_some v.halt ≡ false = ap is_some p.after in cc
 
-      pub Stops-later : (u v w : Audit W L) (xs ys : List Call) (ask : Ask) → Leads follows has_stopped contents u xs v
+      pub Stops-later : (u v w : Audit W L) (xs ys : List Call) (ask : Ask) → Follows follows has_stopped contents u xs v
           → is_some v.halt ≡ is_some u.halt → Stops follows has_stopped stops contents v ys ask w
           → Stops follows has_stopped stops contents u (xs ++ ys) ask w
       Stops-later u v w xs ys ask p same q = elim p [

@@ -1,6 +1,6 @@
 pub mod Audited
 pub mod Audit
-pub mod Leads
+pub mod Follows
 pub mod Stops
 pub mod Steps
 pub mod Laws

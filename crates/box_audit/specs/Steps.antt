@@ -9,7 +9,7 @@ use Rattle.box_world.specs.declared.ask.Stop.{Stop}
 use Rattle.box_world.specs.declared.ask.Stop.TheVariants.{Memory, Log}
 use Rattle.box_audit.specs.Audit.{Audit, halt_behind}
 use Rattle.box_audit.specs.Audited.{line_of}
-use Rattle.box_audit.specs.Leads.{Goes, GoesToLine, GoesToStop}
+use Rattle.box_audit.specs.Follows.{Goes, GoesToLine, GoesToStop}
 use Rattle.box_audit.specs.Stops.{StopsBehind}
 use Rattle.box_audit.specs.declared.lines.Lines.{Lines}
 

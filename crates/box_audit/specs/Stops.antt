@@ -5,7 +5,7 @@ use Rattle.box_world.specs.declared.ask.Ask.{Ask}
 use Rattle.box_world.specs.declared.ask.Reply.{Reply}
 use Rattle.box_audit.specs.Audit.{Audit, Grows, halt_behind}
 use Rattle.box_audit.specs.Audited.{audit_text, audited}
-use Rattle.box_audit.specs.Leads.{GoesToLine}
+use Rattle.box_audit.specs.Follows.{GoesToLine}
 
 -- the world behind stops at the ask
 pub record StopsBehind {W L : Type 0} (stops : W → List Call → Ask → W → Type 0) (contents : L → Option (List ℕ))

@@ -2,8 +2,8 @@
 ghost use Rattle.std.specs.Prelude.{◌≡◌, [], None, Some, is_some, IfNone, IfOk, IfSome, IsSome, OnErr};
 ghost use Rattle.box_world.specs.Calls.{IsDuty};
 ghost use Rattle.box_audit.specs.Audit.{BreaksOff, Grows, log_end_of, numbers_told};
-ghost use Rattle.box_audit.specs.Laws.{Leads-append, Leads-none, Leads-open, Stops-later};
-ghost use Rattle.box_audit.specs.Leads.{Leads, opens};
+ghost use Rattle.box_audit.specs.Laws.{Follows-append, Follows-none, Follows-open, Stops-later};
+ghost use Rattle.box_audit.specs.Follows.{Follows, opens};
 ghost use Rattle.box_audit.specs.Steps.{AreLines, HasNoLine, Lacks, Owes, Passes};
 ghost use Rattle.box_audit.specs.Stops.{Stops};
 ghost use Rattle.box_monitor.specs.Subjects.{subject_of};
@@ -202,7 +202,7 @@ impl<W: World, L: Write> Watched<W, L> {
 }
 
 impl<W: World, L: Write> World for Watched<W, L> {
-    ghost follows = { Leads W.follows W.has_stopped L.contents };
+    ghost follows = { Follows W.follows W.has_stopped L.contents };
 
     ghost open_numbers = { λ a. numbers_told a.halt (W.open_numbers a.world) };
 
@@ -223,11 +223,11 @@ impl<W: World, L: Write> World for Watched<W, L> {
         self.answer(ask)
     }
 
-    ghost follows_none = { Leads-none W.follows W.has_stopped L.contents W.follows_none };
+    ghost follows_none = { Follows-none W.follows W.has_stopped L.contents W.follows_none };
 
-    ghost follows_append = { Leads-append W.follows W.has_stopped L.contents W.follows_append };
+    ghost follows_append = { Follows-append W.follows W.has_stopped L.contents W.follows_append };
 
-    ghost follows_open = { Leads-open W.follows W.has_stopped L.contents W.open_numbers W.follows_open };
+    ghost follows_open = { Follows-open W.follows W.has_stopped L.contents W.open_numbers W.follows_open };
 
     ghost stops_later = { Stops-later W.follows W.has_stopped L.contents W.follows_append W.stops W.stops_later };
 }

@@ -16,8 +16,8 @@ use Rattle.box_world.specs.declared.ask.Request.TheVariants.{Open, Next, Put, Sh
 use Rattle.box_world.specs.declared.ask.Stop.{Stop}
 use Rattle.box_world.specs.declared.ask.Stop.TheVariants.{Memory, Log}
 use Rattle.box_blocks.specs.Blocks.{AreHeld, Blocks, Holds, IsSound, MayBeHeld}
-use Rattle.box_blocks.specs.Laws.{Leads-append, Leads-none, Leads-open, Stops-later, some_puts}
-use Rattle.box_blocks.specs.Leads.{Goes, Leads, Steady}
+use Rattle.box_blocks.specs.Laws.{Follows-append, Follows-none, Follows-open, Stops-later, some_puts}
+use Rattle.box_blocks.specs.Follows.{Goes, Follows, Steady}
 use Rattle.box_blocks.specs.Owes.{BeginsWith, Empties, IsSame, JoinsTo, Lacks, Owes, Passes, Takes}
 use Rattle.box_blocks.specs.Parts.{AllTo, IsPutTo, IsRight, IsShutOf, Part, Same, Block, Refused, Ended, Writing}
 use Rattle.box_blocks.specs.Parts.{answered, asked, done, put_of, untold_by, untold_in}
@@ -64,7 +64,7 @@ module _ {W : Type 0} (follows : W → List Call → W → Type 0) (has_stopped 
   -- a Put is joined to what is held
   pub joins : ((w : W) → follows w [] w) → (old : Blocks W) (held w : Writing) → old.held ≡ Some held
       → w.number ≡ held.number
-      → Leads follows has_stopped old (done w ∷ [])
+      → Follows follows has_stopped old (done w ∷ [])
       (record old { held = Some (record held { bytes = held.bytes ++ w.bytes }) })
   joins none old held w is_held e = record {
     goes = λ puts h. record {
@@ -81,7 +81,7 @@ module _ {W : Type 0} (follows : W → List Call → W → Type 0) (has_stopped 
 
   -- a Put is held where nothing was
   pub begins : ((w : W) → follows w [] w) → (old : Blocks W) (w : Writing) → old.held ≡ None
-      → Leads follows has_stopped old (done w ∷ []) (record old { held = Some w })
+      → Follows follows has_stopped old (done w ∷ []) (record old { held = Some w })
   begins none old w nothing = record {
     goes = λ puts h.
         let no_puts : puts ≡ [] = subst (λ z. AreHeld z puts) nothing h in
@@ -99,7 +99,7 @@ module _ {W : Type 0} (follows : W → List Call → W → Type 0) (has_stopped 
 
   -- the world behind goes on by no call
   pub waits : (old new : Blocks W) → follows old.world [] new.world → new.held ≡ old.held → new.untold ≡ old.untold
-      → (new.stopped ≡ false → Steady has_stopped old new) → Leads follows has_stopped old [] new
+      → (new.stopped ≡ false → Steady has_stopped old new) → Follows follows has_stopped old [] new
   waits old new inner held untold steady = record {
     goes = λ puts h. record {
       parts = [];
@@ -117,7 +117,7 @@ module _ {W : Type 0} (follows : W → List Call → W → Type 0) (has_stopped 
   pub goes_by : (old new : Blocks W) (calls : List Call) (part : Part) → old.held ≡ None → new.held ≡ None
       → calls ≡ answered (part ∷ []) → IsRight old.untold part → new.untold ≡ untold_in old.untold (part ∷ [])
       → follows old.world (asked (part ∷ [])) new.world → (new.stopped ≡ false → Steady has_stopped old new)
-      → Leads follows has_stopped old calls new
+      → Follows follows has_stopped old calls new
   goes_by old new calls part before after are right untold inner steady = record {
     goes = λ puts h.
         let no_puts : puts ≡ [] = subst (λ z. AreHeld z puts) before h in
@@ -137,7 +137,7 @@ module _ {W : Type 0} (follows : W → List Call → W → Type 0) (has_stopped 
   pub puts_held : (old new : Blocks W) (held : Writing) (reply : Reply) → old.held ≡ Some held → new.held ≡ None
       → old.untold ≡ None → length held.bytes ≤ 65536 → new.untold ≡ untold_by held.number reply
       → follows old.world ((put_of held, reply) ∷ []) new.world → (new.stopped ≡ false → Steady has_stopped old new)
-      → Leads follows has_stopped old [] new
+      → Follows follows has_stopped old [] new
   puts_held old new held reply is_held nothing told within untold inner steady = record {
     goes = λ puts h.
         let holds : Holds held puts = subst (λ z. AreHeld z puts) is_held h in
@@ -291,8 +291,8 @@ module _ {W : Type 0} (follows : W → List Call → W → Type 0) (has_stopped 
     pub joined_owes : (old new : Blocks W) (ask : Ask) → JoinsTo old ask new
         → Owes follows has_stopped open_numbers stops lacks old ask (Ok Done) new
     joined_owes old new ask j = (
-      subst (λ z. Leads follows has_stopped old ((z, Done) ∷ []) new) (sym j.is_ask)
-          (subst (λ z. Leads follows has_stopped old (done j.more ∷ []) z) (sym j.left)
+      subst (λ z. Follows follows has_stopped old ((z, Done) ∷ []) new) (sym j.is_ask)
+          (subst (λ z. Follows follows has_stopped old (done j.more ∷ []) z) (sym j.left)
           (joins follows has_stopped none old j.held j.more j.was j.to_same)),
       subst (λ (z : Ask). IsFitting (open_numbers old.world) z.request Done) (sym j.is_ask) tt,
       ap (λ (z : Blocks W). z.stopped) j.left,
@@ -301,8 +301,8 @@ module _ {W : Type 0} (follows : W → List Call → W → Type 0) (has_stopped 
     pub begun_owes : (old new : Blocks W) (ask : Ask) → old.held ≡ None → BeginsWith old ask new
         → Owes follows has_stopped open_numbers stops lacks old ask (Ok Done) new
     begun_owes old new ask nothing b = (
-      subst (λ z. Leads follows has_stopped old ((z, Done) ∷ []) new) (sym b.is_ask)
-          (subst (λ z. Leads follows has_stopped old (done b.held ∷ []) z) (sym b.left)
+      subst (λ z. Follows follows has_stopped old ((z, Done) ∷ []) new) (sym b.is_ask)
+          (subst (λ z. Follows follows has_stopped old (done b.held ∷ []) z) (sym b.left)
           (begins follows has_stopped none old b.held nothing)),
       subst (λ (z : Ask). IsFitting (open_numbers old.world) z.request Done) (sym b.is_ask) tt,
       ap (λ (z : Blocks W). z.stopped) b.left,
@@ -312,7 +312,7 @@ module _ {W : Type 0} (follows : W → List Call → W → Type 0) (has_stopped 
         → new ≡ record old { untold = None }
         → Owes follows has_stopped open_numbers stops lacks old ask (Ok Failed) new
     refused_owes old new ask nothing is_put left = (
-      subst (λ z. Leads follows has_stopped old ((ask, Failed) ∷ []) z) (sym left)
+      subst (λ z. Follows follows has_stopped old ((ask, Failed) ∷ []) z) (sym left)
           (goes_by follows has_stopped old (record old { untold = None }) ((ask, Failed) ∷ []) (Refused ask)
           nothing nothing refl is_put refl (none old.world) (λ h. record { before = h; same = refl })),
       fits_refused old.untold (open_numbers old.world) ask.request is_put,
@@ -350,7 +350,7 @@ module _ {W : Type 0} (follows : W → List Call → W → Type 0) (has_stopped 
       → IsShutOf old.untold ask.request → Passes follows has_stopped open_numbers stops lacks old ask (Ok reply) mid
       → new ≡ record mid { untold = None } → Owes follows has_stopped open_numbers stops lacks old ask (Ok Failed) new
   ended_owes old mid new ask reply nothing is_shut p left = (
-    subst (λ z. Leads follows has_stopped old ((ask, Failed) ∷ []) z) (sym left)
+    subst (λ z. Follows follows has_stopped old ((ask, Failed) ∷ []) z) (sym left)
         (goes_by follows has_stopped old (record mid { untold = None }) ((ask, Failed) ∷ []) (Ended ask reply) nothing
         p.2.held refl is_shut refl p.0 (λ h. record { before = sym p.2.stopped ∙ h; same = p.2.steady })),
     fits_ended old.untold (open_numbers old.world) ask.request is_shut,
@@ -380,7 +380,7 @@ module _ {W : Type 0} (follows : W → List Call → W → Type 0) (has_stopped 
   pub nothing_empties : ((w : W) → follows w [] w) → (old new : Blocks W) → new ≡ old → old.held ≡ None
       → Empties follows has_stopped open_numbers stops lacks old (Ok tt) new
   nothing_empties none old new same nothing = (
-    subst (λ z. Leads follows has_stopped old [] z) (sym same) (Leads-none follows has_stopped none old),
+    subst (λ z. Follows follows has_stopped old [] z) (sym same) (Follows-none follows has_stopped none old),
     ap (λ (z : Blocks W). z.held) same ∙ nothing,
     ap (λ (z : Blocks W). z.stopped) same,
   )
@@ -395,7 +395,7 @@ module _ {W : Type 0} (follows : W → List Call → W → Type 0) (has_stopped 
       let asked_one : follows old.world ((put_of t.held, reply) ∷ []) last.world =
       subst (λ z. follows old.world ((z, reply) ∷ []) last.world) t.is_ask
       (subst (λ z. follows z ((ask, reply) ∷ []) last.world) world p.0) in (
-        subst (λ z. Leads follows has_stopped old [] z) (sym left)
+        subst (λ z. Follows follows has_stopped old [] z) (sym left)
             (puts_held follows has_stopped old (record last { untold = untold }) t.held reply t.was p.2.held t.may.told
             t.may.within (tells t.held t.is_ask) asked_one
             (λ h. record { before = sym stopped ∙ h; same = p.2.steady ∙ ap has_stopped world })),
@@ -412,7 +412,7 @@ module _ {W : Type 0} (follows : W → List Call → W → Type 0) (has_stopped 
       let stopped : last.stopped ≡ old.stopped = p.1.stopped ∙ ap (λ (z : Blocks W). z.stopped) t.left in
       let last_world : new.world ≡ last.world = ap (λ (z : Blocks W). z.world) left in
       let again : held ≡ Some t.held = tells t.held t.is_ask in (
-        subst (λ z. Leads follows has_stopped old [] z) (sym left)
+        subst (λ z. Follows follows has_stopped old [] z) (sym left)
             (waits follows has_stopped old (record last { held = held })
             (subst (λ z. follows z [] last.world) world p.0) (again ∙ sym t.was)
             (p.1.untold ∙ ap (λ (z : Blocks W). z.untold) t.left)
@@ -432,7 +432,7 @@ module _ {W : Type 0} (follows : W → List Call → W → Type 0) (has_stopped 
       let world : mid.world ≡ old.world = ap (λ (z : Blocks W). z.world) t.left in
       let again : held ≡ Some t.held = tells t.held t.is_ask in
       let last_world : new.world ≡ last.world = ap (λ (z : Blocks W). z.world) left in (
-        subst (λ z. Leads follows has_stopped old [] z) (sym left)
+        subst (λ z. Follows follows has_stopped old [] z) (sym left)
             (waits follows has_stopped old (record last { held = held })
             (subst (λ z. follows z [] last.world) world p.0) (again ∙ sym t.was)
             (p.2 ∙ ap (λ (z : Blocks W). z.untold) t.left) (λ h. absurd (false≢true (sym h ∙ p.3)))),
@@ -469,10 +469,10 @@ module _ {W : Type 0} (follows : W → List Call → W → Type 0) (has_stopped 
     -- the same numbers are open once what is held is put
     pub open_still : (old mid : Blocks W) → Empties follows has_stopped open_numbers stops lacks old (Ok tt) mid
         → open_numbers mid.world ≡ open_numbers old.world
-    open_still old mid p = Leads-open follows has_stopped open_numbers leads_open old mid [] p.0
+    open_still old mid p = Follows-open follows has_stopped open_numbers leads_open old mid [] p.0
 
     -- it lacks memory after what was held is put
-    lacks_after : (old mid new : Blocks W) (ask : Ask) → Leads follows has_stopped old [] mid → mid.held ≡ None
+    lacks_after : (old mid new : Blocks W) (ask : Ask) → Follows follows has_stopped old [] mid → mid.held ≡ None
         → Lacks follows lacks mid ask new → Lacks follows lacks old ask new
     lacks_after old mid new ask p nothing l =
         let puts : (puts : List Call) × AreHeld old.held puts = some_puts old.held in
@@ -499,17 +499,17 @@ module _ {W : Type 0} (follows : W → List Call → W → Type 0) (has_stopped 
         → Owes follows has_stopped open_numbers stops lacks mid ask result new
         → Owes follows has_stopped open_numbers stops lacks old ask result new
     emptied_owes old mid new ask (Ok reply) p q = (
-      Leads-append follows has_stopped append old mid new [] ((ask, reply) ∷ []) p.0 q.0,
+      Follows-append follows has_stopped append old mid new [] ((ask, reply) ∷ []) p.0 q.0,
       subst (λ z. IsFitting z ask.request reply) (open_still old mid p) q.1,
       q.2 ∙ p.2,
     )
     emptied_owes old mid new ask (Err Memory) p q = (
-      Leads-append follows has_stopped append old mid new [] [] p.0 q.0,
+      Follows-append follows has_stopped append old mid new [] [] p.0 q.0,
       q.1 ∙ p.2,
       lacks_after old mid new ask p.0 p.1 q.2,
     )
     emptied_owes old mid new ask (Err Log) p q = (
-      Leads-append follows has_stopped append old mid new [] [] p.0 q.0,
+      Follows-append follows has_stopped append old mid new [] [] p.0 q.0,
       Stops-later follows has_stopped stops later old mid new [] [] ask p.0 p.2 q.1,
       q.2,
     )
@@ -539,9 +539,9 @@ module _ {W : Type 0} (follows : W → List Call → W → Type 0) (has_stopped 
         })
 
     module _ (first : W) (calls : List Call) (old new : Blocks W)
-        (early : Leads follows has_stopped (fresh first) calls old) (late : Leads follows has_stopped old [] new) where
+        (early : Follows follows has_stopped (fresh first) calls old) (late : Follows follows has_stopped old [] new) where
       all_goes : Goes follows (fresh first) [] (calls ++ []) new
-      all_goes = (Leads-append follows has_stopped append (fresh first) old new calls [] early late).goes [] refl
+      all_goes = (Follows-append follows has_stopped append (fresh first) old new calls [] early late).goes [] refl
 
       all_written : new.held ≡ None → new.untold ≡ None → AllWritten follows first calls new.world
       all_written nothing told =
@@ -587,7 +587,7 @@ module _ {W : Type 0} (follows : W → List Call → W → Type 0) (has_stopped 
     emptied_by_told old new (Err error) p told untold = (p.0, inl untold)
 
     pub ends_so : (first : W) (calls : List Call) (old new : Blocks W) (result : Result (Unit {0}) NotWritten)
-        → Leads follows has_stopped (fresh first) calls old → IsEmptied follows has_stopped old result new
+        → Follows follows has_stopped (fresh first) calls old → IsEmptied follows has_stopped old result new
         → Ends follows first calls result new.world
     ends_so first calls old new (Ok u) early p = all_written first calls old new early p.0 p.1 p.2
     ends_so first calls old new (Err error) early p = not_all_written first calls old new early p.0 p.1
@@ -601,7 +601,7 @@ module _ {W : Type 0} (follows : W → List Call → W → Type 0) (has_stopped 
   -- the clauses of what a world owes
   pub owes_ok : (old new : Blocks W) (ask : Ask) (result : Result Reply Stop)
       → Owes follows has_stopped open_numbers stops lacks old ask result new
-      → IfOk result (λ reply. Leads follows has_stopped old ((ask, reply) ∷ []) new)
+      → IfOk result (λ reply. Follows follows has_stopped old ((ask, reply) ∷ []) new)
   owes_ok old new ask (Ok reply) p = p.0
   owes_ok old new ask (Err e) p = tt
 
@@ -613,7 +613,7 @@ module _ {W : Type 0} (follows : W → List Call → W → Type 0) (has_stopped 
 
   pub owes_err : (old new : Blocks W) (ask : Ask) (result : Result Reply Stop)
       → Owes follows has_stopped open_numbers stops lacks old ask result new
-      → OnErr result (Leads follows has_stopped old [] new)
+      → OnErr result (Follows follows has_stopped old [] new)
   owes_err old new ask (Ok reply) p = tt
   owes_err old new ask (Err Memory) p = p.0
   owes_err old new ask (Err Log) p = p.0

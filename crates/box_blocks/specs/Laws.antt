@@ -10,7 +10,7 @@ use Rattle.box_world.specs.declared.ask.Reply.TheVariants.{Failed}
 use Rattle.box_world.specs.declared.ask.Request.{Request}
 use Rattle.box_world.specs.declared.ask.Request.TheVariants.{Open, Next, Put, Shut, System, Env, Assign}
 use Rattle.box_blocks.specs.Blocks.{AreHeld, Blocks}
-use Rattle.box_blocks.specs.Leads.{Goes, Leads, Steady}
+use Rattle.box_blocks.specs.Follows.{Goes, Follows, Steady}
 use Rattle.box_blocks.specs.Parts.{AllRight, IsPutTo, IsRight, IsShutOf, Part, Same, Block, Refused, Ended, Writing}
 use Rattle.box_blocks.specs.Parts.{answered, answered_of, asked, asked_of, done, untold_after, untold_in}
 use Rattle.box_blocks.specs.Stops.{Stops, StopsBehind}
@@ -102,8 +102,8 @@ open-parts untold (p ∷ ps) h numbers =
     ∙ sym (open_after-append (answered_of p) (answered ps) numbers)
 
 module _ {W : Type 0} (follows : W → List Call → W → Type 0) (has_stopped : W → Bool) where
-  pub Leads-none : ((w : W) → follows w [] w) → (b : Blocks W) → Leads follows has_stopped b [] b
-  Leads-none none b = record {
+  pub Follows-none : ((w : W) → follows w [] w) → (b : Blocks W) → Follows follows has_stopped b [] b
+  Follows-none none b = record {
     goes = λ puts h. record {
       parts = [];
       rest = puts;
@@ -130,10 +130,10 @@ module _ {W : Type 0} (follows : W → List Call → W → Type 0) (has_stopped 
         (append u.world v.world w.world (asked p.parts) (asked q.parts) p.inner q.inner);
   }
 
-  pub Leads-append : ((u v w : W) (xs ys : List Call) → follows u xs v → follows v ys w → follows u (xs ++ ys) w)
-      → (u v w : Blocks W) (xs ys : List Call) → Leads follows has_stopped u xs v → Leads follows has_stopped v ys w
-      → Leads follows has_stopped u (xs ++ ys) w
-  Leads-append append u v w xs ys p q = record {
+  pub Follows-append : ((u v w : W) (xs ys : List Call) → follows u xs v → follows v ys w → follows u (xs ++ ys) w)
+      → (u v w : Blocks W) (xs ys : List Call) → Follows follows has_stopped u xs v → Follows follows has_stopped v ys w
+      → Follows follows has_stopped u (xs ++ ys) w
+  Follows-append append u v w xs ys p q = record {
     goes = λ puts h.
         let early : Goes follows u puts xs v = p.goes puts h in
         Goes-append append u v w puts xs ys early (q.goes early.rest early.held);
@@ -143,11 +143,11 @@ module _ {W : Type 0} (follows : W → List Call → W → Type 0) (has_stopped 
         record { before = early.before; same = late.same ∙ early.same };
   }
 
-  pub Leads-open : (open_numbers : W → List ℕ)
+  pub Follows-open : (open_numbers : W → List ℕ)
       → ((v w : W) (calls : List Call) → follows v calls w → open_numbers w ≡ open_after calls (open_numbers v))
-      → (v w : Blocks W) (calls : List Call) → Leads follows has_stopped v calls w
+      → (v w : Blocks W) (calls : List Call) → Follows follows has_stopped v calls w
       → open_numbers w.world ≡ open_after calls (open_numbers v.world)
-  Leads-open open_numbers leads_open v w calls p =
+  Follows-open open_numbers leads_open v w calls p =
       let puts : (puts : List Call) × AreHeld v.held puts = some_puts v.held in
       let goes : Goes follows v puts.0 calls w = p.goes puts.0 puts.1 in
       let numbers : List ℕ = open_numbers v.world in
@@ -176,7 +176,7 @@ module _ {W : Type 0} (follows : W → List Call → W → Type 0) (has_stopped 
           (later u.world v.world w.world (asked p.parts) (asked q.parts) q.first p.inner same q.inner);
     }
 
-    Stops-at : (u v w : Blocks W) (xs ys : List Call) (ask : Ask) → Leads follows has_stopped u xs v
+    Stops-at : (u v w : Blocks W) (xs ys : List Call) (ask : Ask) → Follows follows has_stopped u xs v
         → v.stopped ≡ u.stopped → Stops stops v ys ask w → (s : Bool) → v.stopped ≡ s → Stops stops u (xs ++ ys) ask w
     Stops-at u v w xs ys ask p same q true h = inl (sym same ∙ h)
     Stops-at u v w xs ys ask p same q false h =
@@ -188,6 +188,6 @@ module _ {W : Type 0} (follows : W → List Call → W → Type 0) (has_stopped 
               StopsBehind-later u v w puts xs ys ask steady.same early (a early.rest early.held))
         ]
 
-    pub Stops-later : (u v w : Blocks W) (xs ys : List Call) (ask : Ask) → Leads follows has_stopped u xs v
+    pub Stops-later : (u v w : Blocks W) (xs ys : List Call) (ask : Ask) → Follows follows has_stopped u xs v
         → v.stopped ≡ u.stopped → Stops stops v ys ask w → Stops stops u (xs ++ ys) ask w
     Stops-later u v w xs ys ask p same q = Stops-at u v w xs ys ask p same q v.stopped refl

@@ -1,7 +1,7 @@
 pub mod Parts
 pub mod HeldBytes
 pub mod Blocks
-pub mod Leads
+pub mod Follows
 pub mod Stops
 pub mod Owes
 pub mod Written

@@ -6,7 +6,7 @@ use Rattle.box_world.specs.declared.ask.Reply.{Reply}
 use Rattle.box_world.specs.declared.ask.Stop.{Stop}
 use Rattle.box_world.specs.declared.ask.Stop.TheVariants.{Memory, Log}
 use Rattle.box_blocks.specs.Blocks.{Blocks, MayBeHeld}
-use Rattle.box_blocks.specs.Leads.{Leads}
+use Rattle.box_blocks.specs.Follows.{Follows}
 use Rattle.box_blocks.specs.Parts.{Writing, put_of}
 use Rattle.box_blocks.specs.Stops.{Stops}
 
@@ -54,21 +54,21 @@ module _ {W : Type 0} (follows : W → List Call → W → Type 0) (has_stopped 
   -- what a world owes of an ask, where it had not stopped
   abbrev pub Owes : Blocks W → Ask → Result Reply Stop → Blocks W → Type 0
   Owes old ask (Ok reply) new =
-      Leads follows has_stopped old ((ask, reply) ∷ []) new × IsFitting (open_numbers old.world) ask.request reply
+      Follows follows has_stopped old ((ask, reply) ∷ []) new × IsFitting (open_numbers old.world) ask.request reply
       × (new.stopped ≡ old.stopped)
   Owes old ask (Err Memory) new =
-      Leads follows has_stopped old [] new × (new.stopped ≡ old.stopped) × Lacks follows lacks old ask new
+      Follows follows has_stopped old [] new × (new.stopped ≡ old.stopped) × Lacks follows lacks old ask new
   Owes old ask (Err Log) new =
-      Leads follows has_stopped old [] new × Stops stops old [] ask new × (new.stopped ≡ true)
+      Follows follows has_stopped old [] new × Stops stops old [] ask new × (new.stopped ≡ true)
 
   -- nothing is held any more; or the world behind had no memory, or stops
   abbrev pub Empties : Blocks W → Result (Unit {0}) Stop → Blocks W → Type 0
-  Empties old (Ok done) new = Leads follows has_stopped old [] new × (new.held ≡ None) × (new.stopped ≡ old.stopped)
+  Empties old (Ok done) new = Follows follows has_stopped old [] new × (new.held ≡ None) × (new.stopped ≡ old.stopped)
   Empties old (Err Memory) new =
-      Leads follows has_stopped old [] new × IsSome new.held × (new.stopped ≡ old.stopped)
+      Follows follows has_stopped old [] new × IsSome new.held × (new.stopped ≡ old.stopped)
       × ((ask : Ask) → Lacks follows lacks old ask new)
   Empties old (Err Log) new =
-      Leads follows has_stopped old [] new × IsSome new.held × (new.stopped ≡ true)
+      Follows follows has_stopped old [] new × IsSome new.held × (new.stopped ≡ true)
       × ((ask : Ask) → Stops stops old [] ask new)
 
   -- the world behind was asked, where nothing is held

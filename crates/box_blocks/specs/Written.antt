@@ -2,7 +2,7 @@
 use Rattle.std.specs.Prelude.{◌≡◌, ℕ, Bool, false, List, [], ◌++◌, Option, None, IsSome, Result, Ok, Err, ◌⊎◌}
 use Rattle.box_world.specs.Calls.{Call}
 use Rattle.box_blocks.specs.Blocks.{Blocks, Holds}
-use Rattle.box_blocks.specs.Leads.{Leads}
+use Rattle.box_blocks.specs.Follows.{Follows}
 use Rattle.box_blocks.specs.Parts.{AllRight, Part, Writing, answered, asked, untold_in}
 use Rattle.box_blocks.specs.declared.buffered.NotWritten.{NotWritten}
 
@@ -42,9 +42,9 @@ Ends follows first calls (Err error) last = NotAllWritten follows first calls la
 abbrev pub IsEmptied : {W : Type 0} → (W → List Call → W → Type 0) → (W → Bool) → Blocks W
     → Result (Unit {0}) NotWritten → Blocks W → Type 0
 IsEmptied follows has_stopped old (Ok done) new =
-    Leads follows has_stopped old [] new × (new.held ≡ None) × (new.untold ≡ None)
+    Follows follows has_stopped old [] new × (new.held ≡ None) × (new.untold ≡ None)
 IsEmptied follows has_stopped old (Err error) new =
-    Leads follows has_stopped old [] new × (IsSome new.untold ⊎ IsSome new.held)
+    Follows follows has_stopped old [] new × (IsSome new.untold ⊎ IsSome new.held)
 
 -- the world, asked nothing yet
 abbrev pub fresh : {W : Type 0} → W → Blocks W

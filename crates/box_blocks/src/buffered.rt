@@ -4,8 +4,8 @@ ghost use Rattle.std.specs.Prelude.{IfNone, IfOk, IfSome, OnErr, OnOk, IsErrOf, 
 ghost use Rattle.box_world.specs.Calls.{Call, IsDuty, IsFitting};
 ghost use Rattle.box_blocks.specs.Blocks.{Blocks, IsSound};
 ghost use Rattle.box_blocks.specs.HeldBytes.{writing_of};
-ghost use Rattle.box_blocks.specs.Laws.{Leads-append, Leads-none, Leads-open, Stops-later};
-ghost use Rattle.box_blocks.specs.Leads.{Leads};
+ghost use Rattle.box_blocks.specs.Laws.{Follows-append, Follows-none, Follows-open, Stops-later};
+ghost use Rattle.box_blocks.specs.Follows.{Follows};
 ghost use Rattle.box_blocks.specs.Owes.{BeginsWith, Empties, JoinsTo, Lacks, Owes, Takes};
 ghost use Rattle.box_blocks.specs.Parts as spec;
 ghost use Rattle.box_blocks.specs.Parts.{IsPutTo, IsShutOf, Writing, put_of};
@@ -97,7 +97,7 @@ impl<W: World> Buffered<W> {
     /// It is `NotWritten` where the world behind did not take what was held, and where a joined `Put` had failed with
     /// no reply that told it.
     pub fn finish(self) -> (Result<(), NotWritten>, W)
-        ensures { (first : W) (calls : List Call) → Leads W.follows W.has_stopped (fresh first) calls self →
+        ensures { (first : W) (calls : List Call) → Follows W.follows W.has_stopped (fresh first) calls self →
             Ends W.follows first calls result.0 result.1 }
     {
         let mut buffered = self;
@@ -352,7 +352,7 @@ impl<W: World> Buffered<W> {
 }
 
 impl<W: World> World for Buffered<W> {
-    ghost follows = { Leads W.follows W.has_stopped };
+    ghost follows = { Follows W.follows W.has_stopped };
 
     ghost open_numbers = { λ b. W.open_numbers b.world };
 
@@ -373,11 +373,11 @@ impl<W: World> World for Buffered<W> {
         self.answer(ask)
     }
 
-    ghost follows_none = { Leads-none W.follows W.has_stopped W.follows_none };
+    ghost follows_none = { Follows-none W.follows W.has_stopped W.follows_none };
 
-    ghost follows_append = { Leads-append W.follows W.has_stopped W.follows_append };
+    ghost follows_append = { Follows-append W.follows W.has_stopped W.follows_append };
 
-    ghost follows_open = { Leads-open W.follows W.has_stopped W.open_numbers W.follows_open };
+    ghost follows_open = { Follows-open W.follows W.has_stopped W.open_numbers W.follows_open };
 
     ghost stops_later = { Stops-later W.follows W.has_stopped W.stops W.stops_later };
 }

@@ -15,7 +15,7 @@ use Rattle.box_world.specs.declared.ask.Request.{Request}
 use Rattle.box_world.specs.declared.ask.Request.TheVariants.{Open, Next, Put, Shut, System, Env, Assign}
 use Rattle.box_monitor.specs.Asked.{after, asked, told, AllFailed, FailsIfDenied}
 use Rattle.box_monitor.specs.Denials.{after_ask, denial_at, denial_of}
-use Rattle.box_monitor.specs.Leads.{Goes, Leads}
+use Rattle.box_monitor.specs.Follows.{Goes, Follows}
 use Rattle.box_monitor.specs.Lines.{line_of, log_text}
 use Rattle.box_monitor.specs.Stops.{LogEnds, Stops}
 use Rattle.box_monitor.specs.Subjects.{subject_of}
@@ -91,8 +91,8 @@ count-then u v w n m top p q h =
 
 module _ {W L : Type 0} (follows : W → List Call → W → Type 0) (has_stopped : W → Bool)
     (contents : L → Option (List ℕ)) where
-  pub Leads-none : ((w : W) → follows w [] w) → (m : Watch W L) → Leads follows has_stopped contents m [] m
-  Leads-none none m = record {
+  pub Follows-none : ((w : W) → follows w [] w) → (m : Watch W L) → Follows follows has_stopped contents m [] m
+  Follows-none none m = record {
     policy = refl;
     inner = none m.world;
     failed = tt;
@@ -100,10 +100,10 @@ module _ {W L : Type 0} (follows : W → List Call → W → Type 0) (has_stoppe
     goes = λ h. record { before = h; steady = refl; log = Appends-none (contents m.log) };
   }
 
-  pub Leads-append : ((u v w : W) (xs ys : List Call) → follows u xs v → follows v ys w → follows u (xs ++ ys) w)
-      → (u v w : Watch W L) (xs ys : List Call) → Leads follows has_stopped contents u xs v
-      → Leads follows has_stopped contents v ys w → Leads follows has_stopped contents u (xs ++ ys) w
-  Leads-append append u v w xs ys p q =
+  pub Follows-append : ((u v w : W) (xs ys : List Call) → follows u xs v → follows v ys w → follows u (xs ++ ys) w)
+      → (u v w : Watch W L) (xs ys : List Call) → Follows follows has_stopped contents u xs v
+      → Follows follows has_stopped contents v ys w → Follows follows has_stopped contents u (xs ++ ys) w
+  Follows-append append u v w xs ys p q =
       let inner : follows v.world (asked (after u.policy xs) ys) w.world =
       subst (λ z. follows v.world (asked z ys) w.world) p.policy q.inner in
       let failed : AllFailed (after u.policy xs) ys = subst (λ z. AllFailed z ys) p.policy q.failed in
@@ -166,14 +166,14 @@ open-asked book (call ∷ calls) numbers failed =
 
 module _ {W L : Type 0} (follows : W → List Call → W → Type 0) (has_stopped : W → Bool)
     (contents : L → Option (List ℕ)) where
-  pub Leads-open : (open_numbers : W → List ℕ)
+  pub Follows-open : (open_numbers : W → List ℕ)
       → ((v w : W) (calls : List Call) → follows v calls w → open_numbers w ≡ open_after calls (open_numbers v))
-      → (v w : Watch W L) (calls : List Call) → Leads follows has_stopped contents v calls w
+      → (v w : Watch W L) (calls : List Call) → Follows follows has_stopped contents v calls w
       → open_numbers w.world ≡ open_after calls (open_numbers v.world)
-  Leads-open open_numbers leads_open v w calls p =
+  Follows-open open_numbers leads_open v w calls p =
       leads_open v.world w.world _ p.inner ∙ open-asked v.policy calls (open_numbers v.world) p.failed
 
-  policy_later : (u v : Watch W L) (xs ys : List Call) → Leads follows has_stopped contents u xs v
+  policy_later : (u v : Watch W L) (xs ys : List Call) → Follows follows has_stopped contents u xs v
       → after v.policy ys ≡ after u.policy (xs ++ ys)
   policy_later u v xs ys p = ap (λ z. after z ys) p.policy ∙ sym (after-append u.policy xs ys)
 
@@ -189,7 +189,7 @@ module _ {W L : Type 0} (follows : W → List Call → W → Type 0) (has_stoppe
   Stops-at : (stops : W → List Call → Ask → W → Type 0)
       → ((u v w : W) (xs ys : List Call) (ask : Ask) → follows u xs v → has_stopped v ≡ has_stopped u → stops v ys ask w
       → stops u (xs ++ ys) ask w)
-      → (u v w : Watch W L) (xs ys : List Call) (ask : Ask) → Leads follows has_stopped contents u xs v
+      → (u v w : Watch W L) (xs ys : List Call) (ask : Ask) → Follows follows has_stopped contents u xs v
       → is_some v.stop ≡ is_some u.stop
       → Stops stops contents v ys ask w → (s : Option LogEnd) → v.stop ≡ s → Stops stops contents u (xs ++ ys) ask w
   Stops-at stops later u v w xs ys ask p same q (Some s) h = inl (sym same ∙ ap is_some h)
@@ -220,7 +220,7 @@ module _ {W L : Type 0} (follows : W → List Call → W → Type 0) (has_stoppe
   pub Stops-later : (stops : W → List Call → Ask → W → Type 0)
       → ((u v w : W) (xs ys : List Call) (ask : Ask) → follows u xs v → has_stopped v ≡ has_stopped u → stops v ys ask w
       → stops u (xs ++ ys) ask w)
-      → (u v w : Watch W L) (xs ys : List Call) (ask : Ask) → Leads follows has_stopped contents u xs v
+      → (u v w : Watch W L) (xs ys : List Call) (ask : Ask) → Follows follows has_stopped contents u xs v
       → is_some v.stop ≡ is_some u.stop
       → Stops stops contents v ys ask w → Stops stops contents u (xs ++ ys) ask w
   Stops-later stops later u v w xs ys ask p same q = Stops-at stops later u v w xs ys ask p same q v.stop refl

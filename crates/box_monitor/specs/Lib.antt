@@ -7,7 +7,7 @@ pub mod Judged
 pub mod Limited
 pub mod Lines
 pub mod Watch
-pub mod Leads
+pub mod Follows
 pub mod Stops
 pub mod Lacks
 pub mod Refusals

@@ -5,9 +5,9 @@ ghost use Rattle.box_world.specs.Calls.{IsDuty, IsFitting, MarksStop};
 ghost use Rattle.box_world.specs.declared.ask.Reply.TheVariants.{Failed};
 ghost use Rattle.box_policy.specs.Counts.{cleared};
 ghost use Rattle.box_monitor.specs.Denials.{after_ask, denial_of, with_noted};
-ghost use Rattle.box_monitor.specs.Laws.{Leads-none, Leads-append, Leads-open, Stops-later};
+ghost use Rattle.box_monitor.specs.Laws.{Follows-none, Follows-append, Follows-open, Stops-later};
 ghost use Rattle.box_monitor.specs.Lacks.{Lacks};
-ghost use Rattle.box_monitor.specs.Leads.{Leads};
+ghost use Rattle.box_monitor.specs.Follows.{Follows};
 ghost use Rattle.box_monitor.specs.Refusals.{Breaks, Tells};
 ghost use Rattle.box_monitor.specs.Stops.{Stops};
 ghost use Rattle.box_monitor.specs.declared.log_end.LogEnd.TheVariants.{Whole};
@@ -172,7 +172,7 @@ impl<W: World, L: Write> Monitor<W, L> {
 }
 
 impl<W: World, L: Write> World for Monitor<W, L> {
-    ghost follows = { Leads W.follows W.has_stopped L.contents };
+    ghost follows = { Follows W.follows W.has_stopped L.contents };
 
     ghost open_numbers = { λ m. W.open_numbers m.world };
 
@@ -192,11 +192,11 @@ impl<W: World, L: Write> World for Monitor<W, L> {
 
         // What a world owes.
         ensures ok { IfOk result (λ reply.
-            Leads W.follows W.has_stopped L.contents self.old ((ask.now, reply) ∷ []) self.new) }
+            Follows W.follows W.has_stopped L.contents self.old ((ask.now, reply) ∷ []) self.new) }
         ensures fits { IfOk result
             (λ reply. IsFitting (W.open_numbers self.old.world) ask.now.request reply) }
         ensures err { OnErr result
-            (Leads W.follows W.has_stopped L.contents self.old [] self.new) }
+            (Follows W.follows W.has_stopped L.contents self.old [] self.new) }
         ensures log { IsErrOf result Stop.Log → Stops W.stops L.contents self.old [] ask.now self.new }
         ensures stopped { MarksStop result (is_some self.old.stop) (is_some self.new.stop) }
 
@@ -225,11 +225,11 @@ impl<W: World, L: Write> World for Monitor<W, L> {
         }
     }
 
-    ghost follows_none = { Leads-none W.follows W.has_stopped L.contents W.follows_none };
+    ghost follows_none = { Follows-none W.follows W.has_stopped L.contents W.follows_none };
 
-    ghost follows_append = { Leads-append W.follows W.has_stopped L.contents W.follows_append };
+    ghost follows_append = { Follows-append W.follows W.has_stopped L.contents W.follows_append };
 
-    ghost follows_open = { Leads-open W.follows W.has_stopped L.contents W.open_numbers W.follows_open };
+    ghost follows_open = { Follows-open W.follows W.has_stopped L.contents W.open_numbers W.follows_open };
 
     ghost stops_later = { Stops-later W.follows W.has_stopped L.contents W.stops W.stops_later };
 }

@@ -16,7 +16,7 @@ use Rattle.box_world.specs.declared.ask.Request.TheVariants.{Open, Next, Put, Sh
 use Rattle.box_world.specs.declared.memory_world.store.MemoryStream.{MemoryStream}
 use Rattle.box_world.specs.MemoryChanges.{answered, left_by, stream_read, with_end, with_end_of, with_put, with_put_to}
 use Rattle.box_world.specs.MemoryChanges.{with_read, with_shut}
-use Rattle.box_world.specs.MemoryLaw.{Leads}
+use Rattle.box_world.specs.MemoryLaw.{Follows}
 use Rattle.box_world.specs.MemoryState.{Contents, MemoryState}
 
 keys-remove_entry : {X : Type 0} (n : ℕ) (es : List (ℕ × X)) → keys_of (remove_entry (λ k. k == n) es)
@@ -99,6 +99,6 @@ numbers-left_by (Shut n) reply store = keys-with_end n store
 numbers-left_by (System text) (Status s) store = refl
 numbers-left_by request reply store = refl
 
-pub Leads-answered : (ask : Ask) (reply : Reply) (state : MemoryState)
-    → Leads state ((ask, reply) ∷ []) (answered ask reply state)
-Leads-answered ask reply state = record { asked = refl; numbers = numbers-left_by ask.request reply state.store }
+pub Follows-answered : (ask : Ask) (reply : Reply) (state : MemoryState)
+    → Follows state ((ask, reply) ∷ []) (answered ask reply state)
+Follows-answered ask reply state = record { asked = refl; numbers = numbers-left_by ask.request reply state.store }

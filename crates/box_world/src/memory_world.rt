@@ -4,7 +4,7 @@ ghost use Rattle.std.specs.Map.{lookup};
 ghost use Rattle.std.specs.Option.{option_copied};
 ghost use Rattle.std.specs.Str.{bytes_eq};
 ghost use Rattle.box_world.specs.Calls.{IsFitting, IsStatus};
-ghost use Rattle.box_world.specs.MemoryLaw.{Leads, Leads-append, Leads-none, Leads-open, numbers_of};
+ghost use Rattle.box_world.specs.MemoryLaw.{Follows, Follows-append, Follows-none, Follows-open, numbers_of};
 ghost use Rattle.box_world.specs.MemoryNumbers.{GivesNext};
 ghost use Rattle.box_world.specs.MemoryChanges.{answered};
 ghost use Rattle.box_world.specs.MemoryReplies.{fails_at, reply_of};
@@ -193,7 +193,7 @@ impl MemoryWorld {
 }
 
 impl World for MemoryWorld {
-    ghost follows = { Leads };
+    ghost follows = { Follows };
 
     ghost open_numbers = { numbers_of };
 
@@ -207,7 +207,7 @@ impl World for MemoryWorld {
     /// was made to fail is answered `Failed` and does nothing else, but a `Shut` ends its number.
     fn ask(&mut self, ask: &Ask) -> Result<Reply, Stop>
         // What a world owes.
-        ensures ok { IfOk result (λ reply. Leads self.old ((ask.now, reply) ∷ []) self.new) }
+        ensures ok { IfOk result (λ reply. Follows self.old ((ask.now, reply) ∷ []) self.new) }
         ensures fits { IfOk result (λ reply. IsFitting (numbers_of self.old) ask.now.request reply) }
 
         // The reply, and all that it leaves.
@@ -227,11 +227,11 @@ impl World for MemoryWorld {
         Ok(told)
     }
 
-    ghost follows_none = { Leads-none };
+    ghost follows_none = { Follows-none };
 
-    ghost follows_append = { Leads-append };
+    ghost follows_append = { Follows-append };
 
-    ghost follows_open = { Leads-open };
+    ghost follows_open = { Follows-open };
 
     ghost stops_later = { λ _ _ _ _ _ _ _ _ p. p };
 }

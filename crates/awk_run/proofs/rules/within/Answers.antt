@@ -12,20 +12,20 @@ returns-in_err-is_done g c =
     let e = err_from_is_err_and c.from_residual.result c.from_residual.ensures.1 in
     rw (e.1, e.2) (record {
       plays = λ m is. stop _ (λ k. refl) (c.loop-pattern.invariant.leads m is)
-          (c.meet.ensures.plays m is) c.in_err-is_done.was;
-      owns = c.meet.ensures.owns;
+          (c.test_range.ensures.plays m is) c.in_err-is_done.was;
+      owns = c.test_range.ensures.owns;
     })
 
 pub returns-then-not-acts : goal.returns-then-not-acts
 returns-then-not-acts g c = record {
-  plays = λ m is. done (part (Some false) (c.loop-pattern.invariant.leads m is) (c.meet.ensures.plays m is)
+  plays = λ m is. done (part (Some false) (c.loop-pattern.invariant.leads m is) (c.test_range.ensures.plays m is)
       (c.in_ok-is_done.was ∙ ap (λ o. Ok o) (c.in-Some.is ∙ ap (λ b. Some b) c.if-not-acts.true)));
-  owns = c.meet.ensures.owns;
+  owns = c.test_range.ensures.owns;
 }
 
 pub returns-in-Some : goal.returns-in-Some
 returns-in-Some g c = record {
-  plays = λ m is. passes (part (Some true) (c.loop-pattern.invariant.leads m is) (c.meet.ensures.plays m is)
+  plays = λ m is. passes (part (Some true) (c.loop-pattern.invariant.leads m is) (c.test_range.ensures.plays m is)
       (c.in_ok-is_done.was ∙ ap (λ o. Ok o) (c.in-Some.is ∙ ap (λ b. Some b) c.if-not-acts.false)))
       (c.body.ensures.plays m is);
   owns = c.body.ensures.owns;
@@ -34,8 +34,8 @@ returns-in-Some g c = record {
 pub loop-pattern-preserved : goal.loop-pattern-preserved
 loop-pattern-preserved g c = record {
   leads = λ m is. part None (c.loop-pattern.invariant.leads m is)
-      (c.meet.ensures.plays m is) (c.in_ok-is_done.was ∙ ap (λ o. Ok o) c.in_default.is);
-  owns = c.meet.ensures.owns;
+      (c.test_range.ensures.plays m is) (c.in_ok-is_done.was ∙ ap (λ o. Ok o) c.in_default.is);
+  owns = c.test_range.ensures.owns;
 }
 
 pub returns : goal.returns
@@ -45,8 +45,8 @@ returns g c = record {
       c.loop-pattern.invariant.owns;
 }
 
-pub meet-requires : goal.meet-requires
-meet-requires g c = c.loop-pattern.invariant.owns
+pub test_range-requires : goal.test_range-requires
+test_range-requires g c = c.loop-pattern.invariant.owns
 
 pub body-requires : goal.body-requires
-body-requires g c = c.meet.ensures.owns
+body-requires g c = c.test_range.ensures.owns

@@ -1,4 +1,4 @@
-use Rattle.box_world.proofs.LawLemmas.{Leads-answered}
+use Rattle.box_world.proofs.LawLemmas.{Follows-answered}
 use Rattle.box_world.proofs.memory_world.MemoryWorldWorld.ask.Goals as goal
 
 pub returns-clause-ok : goal.returns-clause-ok
@@ -12,4 +12,4 @@ returns-clause-ok c =
       c.in_ok-told.ensures,
       c.in_ok-leave.ensures.ok,
     )
-    (Leads-answered c.args.ask.now c.in_ok-reply.reply _)
+    (Follows-answered c.args.ask.now c.in_ok-reply.reply _)

@@ -16,7 +16,7 @@ pub record Goes {W L : Type 0} (has_stopped : W → Bool) (contents : L → Opti
 
 -- The monitor goes on by these calls: the world behind by those that are not denied, which were counted
 -- for the rules that allow them, and the others were answered Failed, counted and told.
-pub record Leads {W L : Type 0} (follows : W → List Call → W → Type 0) (has_stopped : W → Bool)
+pub record Follows {W L : Type 0} (follows : W → List Call → W → Type 0) (has_stopped : W → Bool)
     (contents : L → Option (List ℕ)) (old : Watch W L) (calls : List Call) (new : Watch W L) : Type 0 where
   pub policy : new.policy ≡ after old.policy calls
   pub inner : follows old.world (asked old.policy calls) new.world

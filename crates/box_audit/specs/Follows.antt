@@ -49,7 +49,7 @@ module _ {W L : Type 0} (follows : W → List Call → W → Type 0) (has_stoppe
       pub none : calls ≡ []
       pub same : new ≡ old
 
-    abbrev pub Leads : Audit W L → List Call → Audit W L → Type 0
-    Leads old calls new =
+    abbrev pub Follows : Audit W L → List Call → Audit W L → Type 0
+    Follows old calls new =
         Goes old calls new ⊎ GoesToStop old calls new ⊎ ((last : Call) × GoesToLine old calls last new)
         ⊎ IsIdle old calls new

@@ -21,7 +21,7 @@ pub record Steady {W : Type 0} (has_stopped : W → Bool) (old new : Blocks W) :
   pub same : has_stopped new.world ≡ has_stopped old.world
 
 -- so it goes on, whichever Puts are those that were held before
-pub record Leads {W : Type 0} (follows : W → List Call → W → Type 0) (has_stopped : W → Bool) (old : Blocks W)
+pub record Follows {W : Type 0} (follows : W → List Call → W → Type 0) (has_stopped : W → Bool) (old : Blocks W)
     (calls : List Call) (new : Blocks W) : Type 0 where
   pub goes : (puts : List Call) → AreHeld old.held puts → Goes follows old puts calls new
   pub steady : new.stopped ≡ false → Steady has_stopped old new

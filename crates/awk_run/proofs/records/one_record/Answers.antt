@@ -5,7 +5,7 @@ use Rattle.awk_streams.proofs.Chain.{part}
 use Rattle.awk_store.proofs.Leading.{takes}
 use Rattle.awk_input.proofs.MainSteps.{done_in, stop_in}
 use Rattle.awk_run.proofs.RuleSteps.{begun, in_midst, stop_before}
-use Rattle.awk_run.proofs.records.meet.Goals as goal
+use Rattle.awk_run.proofs.records.one_record.Goals as goal
 
 pub returns-in_err-is_there : goal.returns-in_err-is_there
 returns-in_err-is_there g c =

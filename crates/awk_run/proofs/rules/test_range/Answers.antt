@@ -9,7 +9,7 @@ use Rattle.awk_streams.proofs.Chain.{at_once, done, part, stop}
 use Rattle.awk_forms.proofs.Leading.{quietly, told_truth}
 use Rattle.awk_run.proofs.RuleSteps.{pattern_first}
 use Rattle.awk_run.specs.Rules.{rule_of}
-use Rattle.awk_run.proofs.rules.meet.Goals as goal
+use Rattle.awk_run.proofs.rules.test_range.Goals as goal
 
 pub returns-in_err-holds : goal.returns-in_err-holds
 returns-in_err-holds g c =
