@@ -14,7 +14,7 @@ use Rattle.awk_resolve.specs.declared.mention.Mention.TheVariants.{Scalar, Array
 use Rattle.awk_resolve.specs.declared.mention.Role.{Role}
 use Rattle.awk_resolve.specs.declared.mention.Role.TheVariants as role
 use Rattle.awk_resolve.specs.declared.mention.Section.{Section}
-use Rattle.awk_resolve.specs.declared.globals.Globals.{Globals}
+use Rattle.awk_resolve.specs.declared.numbers.Globals.{Globals}
 use Rattle.awk_resolve.specs.declared.numbers.Scope.{Scope}
 use Rattle.awk_resolve.specs.declared.numbers.Numbers.{Numbers}
 
