@@ -92,6 +92,25 @@ fn is_misnamed(known: &TextTable<usize>, seen: &ShortTable<Place>, name: &Name) 
     seen.get(text).is_some() || known.get(text).is_some() || is_variable(text)
 }
 
+/// The place of the first of these parameters that is misnamed, noting those before it in a table that is empty.
+fn misnamed_among(
+    alloc: Global,
+    known: &TextTable<usize>,
+    params: &[Name],
+    seen: &mut ShortTable<Place>,
+) -> Result<Option<Place>, Memory>
+    requires { seen.old ≡ [] }
+    ensures { IfOk result (λ found. Finds (OneAfter (ParameterAt known.now) params.now) found) }
+{
+    for param in params {
+        if is_misnamed(known, seen, param) {
+            return Ok(Some(param.place));
+        }
+        seen.put(param.text.copy(alloc)?, param.place)?;
+    }
+    Ok(None)
+}
+
 fn misnamed_in(
     alloc: Global,
     known: &TextTable<usize>,
@@ -100,13 +119,7 @@ fn misnamed_in(
     ensures { IfOk result (λ found. Finds (OneAfter (ParameterAt known.now) params.now) found) }
 {
     let mut seen = ShortTable::new(alloc, params.len())?;
-    for param in params {
-        if is_misnamed(known, &seen, param) {
-            return Ok(Some(param.place));
-        }
-        seen.put(param.text.copy(alloc)?, param.place)?;
-    }
-    Ok(None)
+    misnamed_among(alloc, known, params, &mut seen)
 }
 
 fn misnamed_role(
@@ -222,6 +235,25 @@ fn first_miscalled(known: &TextTable<usize>, parts: &[Section]) -> Option<Place>
     None
 }
 
+/// The same as `misdefined`, noting the functions in a table that is empty.
+fn misdefined_by(
+    alloc: Global,
+    parts: &[Section],
+    known: &mut TextTable<usize>,
+) -> Result<Option<Place>, Memory>
+    requires { known.old ≡ [] }
+    ensures stands { IfOk result (λ found. IfSome found (λ place. Misdefined parts.now place)) }
+    ensures none { IfOk result (λ found. IfNone found ((place : places.Place) → Misdefined parts.now place → ⊥)) }
+{
+    if let Some(place) = add_all(alloc, parts, known)? {
+        return Ok(Some(place));
+    }
+    if let Some(place) = first_misnamed(alloc, known, parts)? {
+        return Ok(Some(place));
+    }
+    Ok(first_miscalled(known, parts))
+}
+
 /// The place of a function that is defined twice, of a parameter that has the name of another one,
 /// of a function or of a variable that awk sets, or of a call that fits no function, if one of
 /// these stands in the script. `Memory` where memory is refused.
@@ -230,13 +262,7 @@ pub fn misdefined(alloc: Global, parts: &[Section]) -> Result<Option<Place>, Mem
     ensures none { IfOk result (λ found. IfNone found ((place : places.Place) → Misdefined parts.now place → ⊥)) }
 {
     let mut known = TextTable::new(alloc);
-    if let Some(place) = add_all(alloc, parts, &mut known)? {
-        return Ok(Some(place));
-    }
-    if let Some(place) = first_misnamed(alloc, &known, parts)? {
-        return Ok(Some(place));
-    }
-    Ok(first_miscalled(&known, parts))
+    misdefined_by(alloc, parts, &mut known)
 }
 
 /// Does nothing: its contract is the law that a script whose places are all taken away is without a

@@ -1,6 +1,6 @@
 // The kinds of the names of a script, and where one has two of them, or an expression is given for an array.
 
-ghost use Rattle.std.specs.Prelude.{◌≡◌, ◌⊎◌, ◌↔◌, true, false, List, Some, IfNone, IfOk, IfErr, OnOk};
+ghost use Rattle.std.specs.Prelude.{◌≡◌, ◌⊎◌, ◌↔◌, true, false, List, [], replicate, Some, IfNone, IfOk, IfErr, OnOk};
 ghost use Rattle.awk_text.specs.declared.place.Place as places;
 ghost use Rattle.awk_tree.specs.Tree.{Text};
 ghost use Rattle.awk_resolve.specs.Assigns as assigns;
@@ -13,6 +13,7 @@ ghost use Rattle.awk_resolve.specs.Kinds.{Agrees, Clashes, NotAfter, global, par
 ghost use Rattle.awk_resolve.specs.Marks as marked;
 ghost use Rattle.awk_resolve.specs.Marks.{AreArrays, AreKinds};
 ghost use Rattle.awk_resolve.specs.Numbering.{numbers};
+ghost use Rattle.awk_resolve.specs.Uses as used;
 ghost use Rattle.awk_resolve.specs.declared.mention.Role as roles;
 ghost use Rattle.awk_resolve.specs.declared.mention.Section as items;
 
@@ -41,6 +42,13 @@ fn is_marked(marks: &Items<bool>, number: Option<usize>) -> bool
         Some(number) => marks.get(number).copied().unwrap_or(false),
         None => false,
     }
+}
+
+/// Which numbers are marked as scalars, and which as arrays.
+#[derive(Drop)]
+struct KindMarks {
+    scalars: Items<bool>,
+    arrays: Items<bool>,
 }
 
 /// The kinds of names, and whether a name may have two of them: where none may, no place is looked at for its name.
@@ -271,6 +279,14 @@ fn first_clash(kinds: &Kinds, parts: &[Section]) -> Option<Place>
     first
 }
 
+/// Marks the scalars, along the links from each parameter to what is handed to it.
+fn scalar_marks(alloc: Global, uses: &[Use], links: &[Items<usize>]) -> Result<Items<bool>, Memory>
+    ensures { IfOk result (λ marks. marked.Marks (used.scalars uses.now) links.now marks) }
+{
+    let scalars = scalars(alloc, uses)?;
+    reached(alloc, scalars.as_slice(), links)
+}
+
 /// Marks the arrays. The links lead from each parameter to what is handed to it, and here also back to those
 /// parameters whose length is asked, which are found along the links as they were.
 fn array_marks(
@@ -287,6 +303,32 @@ fn array_marks(
     reached(alloc, arrays.as_slice(), links.as_slice())
 }
 
+/// Marks so many numbers by these uses.
+fn marks_by(alloc: Global, count: usize, uses: &[Use]) -> Result<KindMarks, Memory>
+    ensures scalars { IfOk result
+        (λ marks. marked.Marks (used.scalars uses.now) (used.linked uses.now (replicate count [])) marks.scalars) }
+    ensures arrays { IfOk result
+        (λ marks. AreArrays uses.now (used.linked uses.now (replicate count [])) marks.arrays) }
+{
+    let mut links = links(alloc, count, uses)?;
+    let scalars = scalar_marks(alloc, uses, links.as_slice())?;
+    let arrays = array_marks(alloc, uses, &mut links)?;
+    Ok(KindMarks { scalars, arrays })
+}
+
+/// Marks the numbers by the uses of these items.
+fn marks_in(alloc: Global, numbers: &Numbers, parts: &[Section]) -> Result<KindMarks, Memory>
+    ensures scalars { IfOk result
+        (λ marks. marked.Marks (used.scalars (used.uses numbers.now parts.now))
+        (used.linked (used.uses numbers.now parts.now) (replicate numbers.now.count [])) marks.scalars) }
+    ensures arrays { IfOk result
+        (λ marks. AreArrays (used.uses numbers.now parts.now)
+        (used.linked (used.uses numbers.now parts.now) (replicate numbers.now.count [])) marks.arrays) }
+{
+    let uses = uses(alloc, numbers, parts)?;
+    marks_by(alloc, numbers.count, uses.as_slice())
+}
+
 impl Kinds {
     fn marked(alloc: Global, parts: &[Section]) -> Result<Kinds, Memory>
         requires { (place : places.Place) → Misdefined parts.now place → ⊥ }
@@ -294,13 +336,11 @@ impl Kinds {
         ensures kinds { IfOk result (λ kinds. AreKinds parts.now kinds) }
     {
         let numbers = Numbers::of(alloc, parts)?;
-        let uses = uses(alloc, &numbers, parts)?;
-        let scalars = scalars(alloc, uses.as_slice())?;
-        let mut links = links(alloc, numbers.count, uses.as_slice())?;
+        let marks = marks_in(alloc, &numbers, parts)?;
         Ok(Kinds {
-            scalars: reached(alloc, scalars.as_slice(), links.as_slice())?,
-            arrays: array_marks(alloc, uses.as_slice(), &mut links)?,
             numbers,
+            scalars: marks.scalars,
+            arrays: marks.arrays,
         })
     }
 

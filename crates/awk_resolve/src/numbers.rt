@@ -2,7 +2,7 @@
 
 ghost use Rattle.std.specs.Prelude.{◌≡◌, ◌+◌, length, map, slice_get, IfOk, OnOk};
 ghost use Rattle.std.specs.Option.{option_copied};
-ghost use Rattle.awk_resolve.specs.Kinds.{global, parameter};
+ghost use Rattle.awk_resolve.specs.Kinds.{global, parameter, scalars, arrays};
 ghost use Rattle.awk_resolve.specs.Numbering as spec;
 ghost use Rattle.awk_resolve.specs.Numbers as named;
 ghost use Rattle.awk_resolve.specs.TextTables.{with_text};
@@ -84,6 +84,51 @@ fn fresh(count: &mut usize) -> Result<usize, Memory>
     Ok(number)
 }
 
+/// Numbers a parameter behind those that the scope has.
+fn add_parameter(
+    alloc: Global,
+    param: &Name,
+    count: &mut usize,
+    scope: &mut Scope,
+) -> Result<(), Memory>
+    ensures scope { OnOk result (scope.new ≡ spec.with_parameter param.now.text count.old scope.old) }
+    ensures count { OnOk result (count.new ≡ count.old + 1) }
+{
+    let number = fresh(count)?;
+    scope.add(param.text.copy(alloc)?, number)
+}
+
+/// Numbers these parameters behind those that the scope has.
+fn add_parameters(
+    alloc: Global,
+    params: &[Name],
+    count: &mut usize,
+    scope: &mut Scope,
+) -> Result<(), Memory>
+    ensures scope { OnOk result (scope.new ≡ spec.scope count.old scope.old params.now) }
+    ensures count { OnOk result (count.new ≡ count.old + length params.now) }
+{
+    for param in params {
+        add_parameter(alloc, param, count, scope)?;
+    }
+    Ok(())
+}
+
+/// With the variables that awk sets, and then those that these items name.
+fn filled(
+    alloc: Global,
+    functions: &TextTable<Scope>,
+    globals: Globals,
+    parts: &[Section],
+) -> Result<Globals, Memory>
+    ensures { IfOk result (λ filled. spec.beside functions.now filled
+        ≡ spec.with_globals parts.now (spec.beside functions.now globals)) }
+{
+    let mut globals = globals;
+    globals.add_all(alloc, functions, parts)?;
+    Ok(globals)
+}
+
 impl Numbers {
     fn new(alloc: Global) -> Numbers
         ensures { result ≡ spec.nothing }
@@ -147,10 +192,7 @@ impl Numbers {
         ensures rest { OnOk result (self.new ≡ spec.counted_by (length params.now) self.old) }
     {
         let mut scope = Scope::new(alloc, params.len())?;
-        for param in params {
-            let number = fresh(&mut self.count)?;
-            scope.add(param.text.copy(alloc)?, number)?;
-        }
+        add_parameters(alloc, params, &mut self.count, &mut scope)?;
         Ok(scope)
     }
 
@@ -186,13 +228,11 @@ impl Numbers {
             globals,
             count,
         } = numbers;
-        let mut globals = Globals {
+        let globals = Globals {
             numbers: globals,
             count,
         };
-        globals.add_own(alloc, &functions, &SCALARS)?;
-        globals.add_own(alloc, &functions, &ARRAYS)?;
-        globals.add_parts(alloc, &functions, parts)?;
+        let globals = filled(alloc, &functions, globals, parts)?;
         Ok(Numbers {
             functions,
             globals: globals.numbers,
@@ -320,21 +360,31 @@ impl Globals {
         }
     }
 
-    fn add_own(
+    fn add_names(
         &mut self,
         alloc: Global,
-        functions: &TextTable<Scope>,
+        within: &Within<'_>,
         texts: &[&[u8]],
     ) -> Result<(), Memory>
+        ensures { OnOk result (spec.beside within.now.functions.now self.new
+            ≡ spec.with_names within.now.role.now (map (λ w. w.now) texts.now)
+            (spec.beside within.now.functions.now self.old)) }
+    {
+        for text in texts {
+            self.add(alloc, within, text)?;
+        }
+        Ok(())
+    }
+
+    /// The variables that awk sets.
+    fn add_own(&mut self, alloc: Global, functions: &TextTable<Scope>) -> Result<(), Memory>
         ensures { OnOk result (spec.beside functions.now self.new
-            ≡ spec.with_own (map (λ w. w.now) texts.now) (spec.beside functions.now self.old)) }
+            ≡ spec.with_own arrays (spec.with_own scalars (spec.beside functions.now self.old))) }
     {
         let begin = Role::Begin;
         let within = Within::new(functions, &begin);
-        for text in texts {
-            self.add(alloc, &within, text)?;
-        }
-        Ok(())
+        self.add_names(alloc, &within, &SCALARS)?;
+        self.add_names(alloc, &within, &ARRAYS)
     }
 
     fn add_argument(
@@ -416,5 +466,19 @@ impl Globals {
             self.add_mentions(alloc, &within, part.mentions.as_slice())?;
         }
         Ok(())
+    }
+
+    /// The variables that awk sets, and then those that these items name.
+    fn add_all(
+        &mut self,
+        alloc: Global,
+        functions: &TextTable<Scope>,
+        parts: &[Section],
+    ) -> Result<(), Memory>
+        ensures { OnOk result (spec.beside functions.now self.new
+            ≡ spec.with_globals parts.now (spec.beside functions.now self.old)) }
+    {
+        self.add_own(alloc, functions)?;
+        self.add_parts(alloc, functions, parts)
     }
 }

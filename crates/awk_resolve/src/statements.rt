@@ -206,34 +206,48 @@ fn function(alloc: Global, function: &Function) -> Result<Role, Memory>
     Ok(Role::Function(name, params))
 }
 
+/// An item of this role with all that its action says.
+fn with_action(alloc: Global, role: Role, body: &[Statement]) -> Result<Section, Memory>
+    ensures { IfOk result
+        (λ p. p ≡ record { role = role; mentions = spec.all_said (map view_statement body.now) }) }
+{
+    match action(alloc, body) {
+        Ok(mentions) => Ok(Section { role, mentions }),
+        Err(refused) => Err(refused),
+    }
+}
+
+/// An item for records with what it says.
+fn of_rule(mentions: Items<Mention>) -> Section
+    ensures { result ≡ record { role = role.Rule; mentions = mentions } }
+{
+    Section {
+        role: Role::Rule,
+        mentions,
+    }
+}
+
+fn of_function(alloc: Global, f: &Function) -> Result<Section, Memory>
+    ensures { IfOk result
+        (λ p. p ≡ record {
+          role = role.Function f.now.name f.now.params;
+          mentions = spec.all_said (map view_statement f.now.body);
+        }) }
+{
+    let role = function(alloc, f)?;
+    with_action(alloc, role, f.body.as_slice())
+}
+
 fn part(alloc: Global, item: &Item) -> Result<Section, Memory>
     ensures { IfOk result (λ p. p ≡ spec.part (view_item item.now)) }
 {
     match item {
-        Item::Begin(body) => Ok(Section {
-            role: Role::Begin,
-            mentions: action(alloc, body.as_slice())?,
-        }),
-        Item::End(body) => Ok(Section {
-            role: Role::End,
-            mentions: action(alloc, body.as_slice())?,
-        }),
-        Item::Always(body) => Ok(Section {
-            role: Role::Rule,
-            mentions: action(alloc, body.as_slice())?,
-        }),
-        Item::Shown(condition) => Ok(Section {
-            role: Role::Rule,
-            mentions: shown(alloc, condition)?,
-        }),
-        Item::Rule(condition, body) => Ok(Section {
-            role: Role::Rule,
-            mentions: rule(alloc, condition, body.as_slice())?,
-        }),
-        Item::Function(f) => Ok(Section {
-            role: function(alloc, f)?,
-            mentions: action(alloc, f.body.as_slice())?,
-        }),
+        Item::Begin(body) => with_action(alloc, Role::Begin, body.as_slice()),
+        Item::End(body) => with_action(alloc, Role::End, body.as_slice()),
+        Item::Always(body) => with_action(alloc, Role::Rule, body.as_slice()),
+        Item::Shown(condition) => Ok(of_rule(shown(alloc, condition)?)),
+        Item::Rule(condition, body) => Ok(of_rule(rule(alloc, condition, body.as_slice())?)),
+        Item::Function(f) => of_function(alloc, f),
     }
 }
 

@@ -2,7 +2,7 @@
 
 ghost use Rattle.std.specs.Prelude.{◌≡◌, ◌++◌, map, IfOk, OnOk};
 ghost use Rattle.awk_resolve.specs.Kinds.{parameter, texts};
-ghost use Rattle.awk_resolve.specs.Said.{defined};
+ghost use Rattle.awk_resolve.specs.Said.{defined, defined_by};
 ghost use Rattle.awk_resolve.specs.Sound.{Sound};
 ghost use Rattle.awk_resolve.specs.Tables as spec;
 ghost use Rattle.awk_resolve.specs.TablesIn.{tables_in};
@@ -16,16 +16,30 @@ use awk_tree::Name;
 use sqlite_items::Items;
 use std::alloc::Global;
 
+fn add_function(alloc: Global, role: &Role, out: &mut Roll) -> Result<(), Memory>
+    ensures { OnOk result (out.new ≡ out.old ++ texts (defined_by role.now)) }
+{
+    match role {
+        Role::Function(name, _params) => out.push(name.text.copy(alloc)?),
+        Role::Begin | Role::End | Role::Rule => Ok(()),
+    }
+}
+
+fn add_functions(alloc: Global, parts: &[Section], out: &mut Roll) -> Result<(), Memory>
+    ensures { OnOk result (out.new ≡ out.old ++ texts (defined parts.now)) }
+{
+    for part in parts {
+        add_function(alloc, &part.role, out)?;
+    }
+    Ok(())
+}
+
 /// The names of the functions, in order, or `Memory` where one stands twice or memory is refused.
 fn function_names(alloc: Global, parts: &[Section]) -> Result<Roll, Memory>
     ensures { IfOk result (λ roll. roll ≡ texts (defined parts.now)) }
 {
     let mut roll = Roll::new(alloc);
-    for part in parts {
-        if let Role::Function(name, _params) = &part.role {
-            roll.push(name.text.copy(alloc)?)?;
-        }
-    }
+    add_functions(alloc, parts, &mut roll)?;
     Ok(roll)
 }
 

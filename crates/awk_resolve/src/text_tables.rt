@@ -169,10 +169,17 @@ impl Roll {
         ensures { IfOk result (λ roll. roll ≡ texts names.now) }
     {
         let mut roll = Roll::new(alloc);
-        for name in names {
-            roll.push(name.text.copy(alloc)?)?;
-        }
+        roll.push_names(alloc, names)?;
         Ok(roll)
+    }
+
+    fn push_names(&mut self, alloc: Global, names: &[Name]) -> Result<(), Memory>
+        ensures { OnOk result (self.new ≡ self.old ++ texts names.now) }
+    {
+        for name in names {
+            self.push(name.text.copy(alloc)?)?;
+        }
+        Ok(())
     }
 
     /// The texts, in order. Takes no memory.

@@ -2,6 +2,7 @@
 
 ghost use Rattle.std.specs.Prelude.{◌≡◌, ◌++◌, ◌↔◌, ℕ, [], Some, true, false, length, map, replicate, slice_get};
 ghost use Rattle.std.specs.Prelude.{IfOk, OnOk};
+ghost use Rattle.awk_resolve.specs.Kinds as kinds;
 ghost use Rattle.awk_resolve.specs.Marking as marking;
 ghost use Rattle.awk_resolve.specs.Reached.{Reached};
 ghost use Rattle.awk_resolve.specs.Uses as spec;
@@ -155,26 +156,38 @@ fn parts(numbers: &Numbers, parts: &[Section], out: &mut Items<Use>) -> Result<(
     Ok(())
 }
 
-fn own_scalars(numbers: &Numbers, texts: &[&[u8]], out: &mut Items<Use>) -> Result<(), Memory>
-    ensures { OnOk result (out.new ≡ out.old ++ spec.own_scalars numbers.now (map (λ w. w.now) texts.now)) }
+fn all_scalar(inside: &Inside<'_>, texts: &[&[u8]], out: &mut Items<Use>) -> Result<(), Memory>
+    ensures { OnOk result
+        (out.new ≡ out.old
+        ++ spec.all_scalar inside.now.numbers.now inside.now.role.now (map (λ w. w.now) texts.now)) }
 {
-    let begin = Role::Begin;
-    let inside = Inside::new(numbers, &begin);
     for text in texts {
-        scalar(&inside, text, out)?;
+        scalar(inside, text, out)?;
     }
     Ok(())
 }
 
-fn own_arrays(numbers: &Numbers, texts: &[&[u8]], out: &mut Items<Use>) -> Result<(), Memory>
-    ensures { OnOk result (out.new ≡ out.old ++ spec.own_arrays numbers.now (map (λ w. w.now) texts.now)) }
+fn all_array(inside: &Inside<'_>, texts: &[&[u8]], out: &mut Items<Use>) -> Result<(), Memory>
+    ensures { OnOk result
+        (out.new ≡ out.old
+        ++ spec.all_array inside.now.numbers.now inside.now.role.now (map (λ w. w.now) texts.now)) }
+{
+    for text in texts {
+        array(inside, text, out)?;
+    }
+    Ok(())
+}
+
+/// The uses of the variables that awk sets.
+fn own(numbers: &Numbers, out: &mut Items<Use>) -> Result<(), Memory>
+    ensures { OnOk result
+        (out.new ≡ out.old
+        ++ (spec.own_scalars numbers.now kinds.scalars ++ spec.own_arrays numbers.now kinds.arrays)) }
 {
     let begin = Role::Begin;
     let inside = Inside::new(numbers, &begin);
-    for text in texts {
-        array(&inside, text, out)?;
-    }
-    Ok(())
+    all_scalar(&inside, &SCALARS, out)?;
+    all_array(&inside, &ARRAYS, out)
 }
 
 /// The uses of the variables that awk sets, and then those in these items.
@@ -182,8 +195,7 @@ pub fn uses(alloc: Global, numbers: &Numbers, items: &[Section]) -> Result<Items
     ensures { IfOk result (λ uses. uses ≡ spec.uses numbers.now items.now) }
 {
     let mut out = Items::new(alloc);
-    own_scalars(numbers, &SCALARS, &mut out)?;
-    own_arrays(numbers, &ARRAYS, &mut out)?;
+    own(numbers, &mut out)?;
     parts(numbers, items, &mut out)?;
     Ok(out)
 }
@@ -246,16 +258,23 @@ fn link(table: &mut Vec<Items<usize>>, parameter: usize, number: usize) -> Resul
     Ok(())
 }
 
+fn add_links(table: &mut Vec<Items<usize>>, uses: &[Use]) -> Result<(), Memory>
+    ensures { OnOk result (table.new.items ≡ spec.linked uses.now table.old.items) }
+{
+    for one in uses {
+        if let Use::Handed(parameter, number) = one {
+            link(table, *parameter, *number)?;
+        }
+    }
+    Ok(())
+}
+
 /// For each of this many numbers, the numbers of the names that are handed to it.
 pub fn links(alloc: Global, count: usize, uses: &[Use]) -> Result<Vec<Items<usize>>, Memory>
     ensures { IfOk result (λ table. table.items ≡ spec.linked uses.now (replicate count [])) }
 {
     let mut table = no_links(alloc, count)?;
-    for one in uses {
-        if let Use::Handed(parameter, number) = one {
-            link(&mut table, *parameter, *number)?;
-        }
-    }
+    add_links(&mut table, uses)?;
     Ok(table)
 }
 

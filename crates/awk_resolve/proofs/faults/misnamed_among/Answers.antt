@@ -1,11 +1,11 @@
 use Rattle.awk_resolve.specs.Search.{ParameterAt}
 use Rattle.awk_resolve.proofs.Naming.{is_bad, is_fine, saw_more, saw_none}
 use Rattle.awk_resolve.proofs.Searches.{all_none, here_after, more_none, nothing_none}
-use Rattle.awk_resolve.proofs.faults.misnamed_in.Goals as goal
+use Rattle.awk_resolve.proofs.faults.misnamed_among.Goals as goal
 
 pub loop-param-init : goal.loop-param-init
 loop-param-init c = record {
-  saw = rw c.in_ok-seen.ensures saw_none;
+  saw = rw c.requires saw_none;
   none =
       nothing_none (ParameterAt c.args.known.now);
 }

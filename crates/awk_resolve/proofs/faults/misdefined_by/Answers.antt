@@ -3,7 +3,7 @@ use Rattle.awk_text.specs.declared.place.Place.{Place}
 use Rattle.awk_resolve.specs.Faults.{Misdefined, Redefined, Misnamed, Miscalled, redefined, misnamed, miscalled}
 use Rattle.awk_resolve.specs.Search.{Finds}
 use Rattle.awk_resolve.specs.declared.mention.Section.{Section}
-use Rattle.awk_resolve.proofs.faults.misdefined.Goals as goal
+use Rattle.awk_resolve.proofs.faults.misdefined_by.Goals as goal
 
 stands : (ps : List Section) (o : Option Place) → Finds (Miscalled ps) o → IfSome o (λ place. Misdefined ps place)
 stands ps None none = tt
