@@ -10,7 +10,7 @@ use Rattle.std.proofs.lemmas.Option.{slice_get-get_or, slice_get_within}
 use Rattle.awk_resolve.proofs.Lists.{contains_none, contains_cases}
 use Rattle.awk_resolve.specs.Reached.{Reached, seed, link}
 use Rattle.awk_resolve.specs.Marking.{fresh, marked, mark, mark_all, followed, follow}
-use Rattle.awk_resolve.specs.declared.reach.Reach.{Reach}
+use Rattle.awk_resolve.specs.declared.uses.Reach.{Reach}
 
 -- ---- marks
 

@@ -1,7 +1,7 @@
 -- How numbers are marked: each that is marked first is queued.
 use Rattle.std.specs.Prelude.{ℕ, Bool, true, false, List, [], ◌∷◌, ◌++◌, replicate, slice_get, slice_set, Option, Some}
 use Rattle.std.specs.Prelude.{None}
-use Rattle.awk_resolve.specs.declared.reach.Reach.{Reach}
+use Rattle.awk_resolve.specs.declared.uses.Reach.{Reach}
 
 abbrev pub fresh : ℕ → Reach
 fresh count = record { marks = replicate count false; queue = [] }

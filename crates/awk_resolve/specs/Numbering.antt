@@ -14,7 +14,7 @@ use Rattle.awk_resolve.specs.declared.mention.Mention.TheVariants.{Scalar, Array
 use Rattle.awk_resolve.specs.declared.mention.Role.{Role}
 use Rattle.awk_resolve.specs.declared.mention.Role.TheVariants as role
 use Rattle.awk_resolve.specs.declared.mention.Section.{Section}
-use Rattle.awk_resolve.specs.declared.globals.Globals.{Globals}
+use Rattle.awk_resolve.specs.declared.numbers.Globals.{Globals}
 use Rattle.awk_resolve.specs.declared.numbers.Scope.{Scope}
 use Rattle.awk_resolve.specs.declared.numbers.Numbers.{Numbers}
 
@@ -87,9 +87,12 @@ unless_numbered (Some n) x t = t
 abbrev pub with_name : Role → Text → Numbers → Numbers
 with_name r x t = unless_numbered (number_in t r x) x t
 
+abbrev pub with_names : Role → List Text → Numbers → Numbers
+with_names r [] t = t
+with_names r (x ∷ xs) t = with_names r xs (with_name r x t)
+
 abbrev pub with_own : List Text → Numbers → Numbers
-with_own [] t = t
-with_own (x ∷ xs) t = with_own xs (with_name role.Begin x t)
+with_own xs t = with_names role.Begin xs t
 
 abbrev pub with_argument : Role → Option Name → Numbers → Numbers
 with_argument r None t = t
@@ -114,5 +117,9 @@ abbrev pub with_parts : List Section → Numbers → Numbers
 with_parts [] t = t
 with_parts (p ∷ ps) t = with_parts ps (with_mentions p.role p.mentions t)
 
+-- those that awk sets, and then those that the items name
+abbrev pub with_globals : List Section → Numbers → Numbers
+with_globals parts t = with_parts parts (with_own arrays (with_own scalars t))
+
 abbrev pub numbers : List Section → Numbers
-numbers parts = with_parts parts (with_own arrays (with_own scalars (with_functions parts nothing)))
+numbers parts = with_globals parts (with_functions parts nothing)

@@ -81,13 +81,19 @@ abbrev pub parts : Numbers → List Section → List Use
 parts t [] = []
 parts t (p ∷ ps) = mentions t p.role p.mentions ++ parts t ps
 
+abbrev pub all_scalar : Numbers → Role → List Text → List Use
+all_scalar t r [] = []
+all_scalar t r (x ∷ xs) = scalar t r x ++ all_scalar t r xs
+
+abbrev pub all_array : Numbers → Role → List Text → List Use
+all_array t r [] = []
+all_array t r (x ∷ xs) = array t r x ++ all_array t r xs
+
 abbrev pub own_scalars : Numbers → List Text → List Use
-own_scalars t [] = []
-own_scalars t (x ∷ xs) = scalar t role.Begin x ++ own_scalars t xs
+own_scalars t xs = all_scalar t role.Begin xs
 
 abbrev pub own_arrays : Numbers → List Text → List Use
-own_arrays t [] = []
-own_arrays t (x ∷ xs) = array t role.Begin x ++ own_arrays t xs
+own_arrays t xs = all_array t role.Begin xs
 
 abbrev pub uses : Numbers → List Section → List Use
 uses t ps = own_scalars t k.scalars ++ (own_arrays t k.arrays ++ parts t ps)

@@ -7,39 +7,22 @@
 //! has, and in which order.
 #![tactic(auto)]
 
-mod clash;
-mod definitions;
 mod expressions;
-mod flags;
-mod functions;
-mod globals;
-mod inside;
+mod faults;
 mod kinds;
 mod mention;
 mod numbers;
-mod own_names;
-mod parameters;
-mod placement;
-mod places;
-mod reach;
 mod requests;
-mod roll;
-mod short_table;
-mod slots;
 mod statements;
-mod summary;
-mod table;
 mod tables;
+mod text_tables;
 mod uses;
 mod variables;
 
-pub use functions::misdefined;
+pub use faults::{faultless_places_aside, misdefined, misplaced};
 pub use kinds::Kinds;
 pub use mention::{Mention, Role, Section};
-pub use own_names::OwnNames;
-pub use placement::misplaced;
-pub use places::faultless_places_aside;
 pub use requests::{names_environ, reads_main};
-pub use roll::Roll;
-pub use summary::parts;
+pub use statements::parts;
 pub use tables::{Tables, tables_of};
+pub use text_tables::{OwnNames, Roll};

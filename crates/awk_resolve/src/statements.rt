@@ -1,16 +1,17 @@
-// What a statement says.
+// What a statement says, and what the items of a script say.
 
-ghost use Rattle.std.specs.Prelude.{◌≡◌, [], ◌∷◌, ◌++◌, OnOk, map, option_map};
-ghost use Rattle.awk_tree.specs.View.{view, view_redirection, view_printed, view_statement};
+ghost use Rattle.std.specs.Prelude.{◌≡◌, [], ◌∷◌, ◌++◌, IfOk, OnOk, map, option_map};
+ghost use Rattle.awk_tree.specs.View.{view, view_redirection, view_printed, view_statement, view_pattern, view_item};
 ghost use Rattle.awk_tree.specs.Tree.{statements_of};
 ghost use Rattle.awk_resolve.specs.Mentions as spec;
 ghost use Rattle.awk_resolve.specs.declared.mention.Mention.TheVariants as mention;
+ghost use Rattle.awk_resolve.specs.declared.mention.Role.TheVariants as role;
 
 use crate::expressions::{array, each, expression, optional, scalar};
-use crate::mention::Mention;
+use crate::mention::{Mention, Role, Section, copy_name};
 use awk_text::Memory;
 use awk_text::place::Place;
-use awk_tree::{Expr, Jump, Name, Printed, Redirection, Statement};
+use awk_tree::{Expr, Function, Item, Jump, Name, Pattern, Printed, Redirection, Statement};
 use sqlite_items::Items;
 use std::alloc::Global;
 
@@ -148,4 +149,115 @@ pub fn statements(
         statement(alloc, is_inside, s, out)?;
     }
     Ok(())
+}
+
+fn pattern(alloc: Global, pattern: &Pattern, out: &mut Items<Mention>) -> Result<(), Memory>
+    ensures { OnOk result (out.new ≡ out.old ++ spec.conditions (view_pattern pattern.now)) }
+{
+    match pattern {
+        Pattern::Expr(x) => expression(alloc, x, out),
+        Pattern::Range(x, y) => {
+            expression(alloc, x, out)?;
+            expression(alloc, y, out)
+        }
+    }
+}
+
+fn action(alloc: Global, body: &[Statement]) -> Result<Items<Mention>, Memory>
+    ensures { IfOk result (λ said. said ≡ spec.all_said (map view_statement body.now)) }
+{
+    let mut said = Items::new(alloc);
+    statements(alloc, false, body, &mut said)?;
+    Ok(said)
+}
+
+fn shown(alloc: Global, condition: &Pattern) -> Result<Items<Mention>, Memory>
+    ensures { IfOk result (λ said. said ≡ spec.conditions (view_pattern condition.now)) }
+{
+    let mut said = Items::new(alloc);
+    pattern(alloc, condition, &mut said)?;
+    Ok(said)
+}
+
+fn rule(alloc: Global, condition: &Pattern, body: &[Statement]) -> Result<Items<Mention>, Memory>
+    ensures { IfOk result
+        (λ said. said ≡ spec.conditions (view_pattern condition.now) ++ spec.all_said (map view_statement body.now)) }
+{
+    let mut said = shown(alloc, condition)?;
+    statements(alloc, false, body, &mut said)?;
+    Ok(said)
+}
+
+fn names(alloc: Global, names: &[Name]) -> Result<Items<Name>, Memory>
+    ensures { IfOk result (λ copy. copy ≡ names.now) }
+{
+    let mut copy = Items::new(alloc);
+    for name in names {
+        copy.push(copy_name(alloc, name)?)?;
+    }
+    Ok(copy)
+}
+
+fn function(alloc: Global, function: &Function) -> Result<Role, Memory>
+    ensures { IfOk result (λ r. r ≡ role.Function function.now.name function.now.params) }
+{
+    let name = copy_name(alloc, &function.name)?;
+    let params = names(alloc, function.params.as_slice())?;
+    Ok(Role::Function(name, params))
+}
+
+/// An item of this role with all that its action says.
+fn with_action(alloc: Global, role: Role, body: &[Statement]) -> Result<Section, Memory>
+    ensures { IfOk result
+        (λ p. p ≡ record { role = role; mentions = spec.all_said (map view_statement body.now) }) }
+{
+    match action(alloc, body) {
+        Ok(mentions) => Ok(Section { role, mentions }),
+        Err(refused) => Err(refused),
+    }
+}
+
+/// An item for records with what it says.
+fn of_rule(mentions: Items<Mention>) -> Section
+    ensures { result ≡ record { role = role.Rule; mentions = mentions } }
+{
+    Section {
+        role: Role::Rule,
+        mentions,
+    }
+}
+
+fn of_function(alloc: Global, f: &Function) -> Result<Section, Memory>
+    ensures { IfOk result
+        (λ p. p ≡ record {
+          role = role.Function f.now.name f.now.params;
+          mentions = spec.all_said (map view_statement f.now.body);
+        }) }
+{
+    let role = function(alloc, f)?;
+    with_action(alloc, role, f.body.as_slice())
+}
+
+fn part(alloc: Global, item: &Item) -> Result<Section, Memory>
+    ensures { IfOk result (λ p. p ≡ spec.part (view_item item.now)) }
+{
+    match item {
+        Item::Begin(body) => with_action(alloc, Role::Begin, body.as_slice()),
+        Item::End(body) => with_action(alloc, Role::End, body.as_slice()),
+        Item::Always(body) => with_action(alloc, Role::Rule, body.as_slice()),
+        Item::Shown(condition) => Ok(of_rule(shown(alloc, condition)?)),
+        Item::Rule(condition, body) => Ok(of_rule(rule(alloc, condition, body.as_slice())?)),
+        Item::Function(f) => of_function(alloc, f),
+    }
+}
+
+/// The items of a script, each with all that it says, or `Memory` where memory is refused.
+pub fn parts(alloc: Global, items: &[Item]) -> Result<Items<Section>, Memory>
+    ensures { IfOk result (λ ps. ps ≡ map spec.part (map view_item items.now)) }
+{
+    let mut parts = Items::new(alloc);
+    for item in items {
+        parts.push(part(alloc, item)?)?;
+    }
+    Ok(parts)
 }

@@ -1,15 +1,18 @@
-// What the items of a script make of each number.
+// What the items of a script make of each number, and what is reached from these along what is handed to parameters.
 
-ghost use Rattle.std.specs.Prelude.{◌≡◌, ◌++◌, [], map, replicate, slice_get, IfOk, OnOk};
+ghost use Rattle.std.specs.Prelude.{◌≡◌, ◌++◌, ◌↔◌, ℕ, [], Some, true, false, length, map, replicate, slice_get};
+ghost use Rattle.std.specs.Prelude.{IfOk, OnOk};
+ghost use Rattle.awk_resolve.specs.Kinds as kinds;
+ghost use Rattle.awk_resolve.specs.Marking as marking;
+ghost use Rattle.awk_resolve.specs.Reached.{Reached};
 ghost use Rattle.awk_resolve.specs.Uses as spec;
 
-use crate::inside::Inside;
 use crate::mention::{Mention, Role, Section};
-use crate::numbers::{Numbers, nth};
+use crate::numbers::{Inside, Numbers, nth};
 use crate::variables::{ARRAYS, SCALARS};
 use awk_text::Memory;
 use awk_tree::Name;
-use sqlite_items::Items;
+use sqlite_items::{Items, at};
 use std::alloc::Global;
 
 /// One use of a name, by its number.
@@ -153,26 +156,38 @@ fn parts(numbers: &Numbers, parts: &[Section], out: &mut Items<Use>) -> Result<(
     Ok(())
 }
 
-fn own_scalars(numbers: &Numbers, texts: &[&[u8]], out: &mut Items<Use>) -> Result<(), Memory>
-    ensures { OnOk result (out.new ≡ out.old ++ spec.own_scalars numbers.now (map (λ w. w.now) texts.now)) }
+fn all_scalar(inside: &Inside<'_>, texts: &[&[u8]], out: &mut Items<Use>) -> Result<(), Memory>
+    ensures { OnOk result
+        (out.new ≡ out.old
+        ++ spec.all_scalar inside.now.numbers.now inside.now.role.now (map (λ w. w.now) texts.now)) }
 {
-    let begin = Role::Begin;
-    let inside = Inside::new(numbers, &begin);
     for text in texts {
-        scalar(&inside, text, out)?;
+        scalar(inside, text, out)?;
     }
     Ok(())
 }
 
-fn own_arrays(numbers: &Numbers, texts: &[&[u8]], out: &mut Items<Use>) -> Result<(), Memory>
-    ensures { OnOk result (out.new ≡ out.old ++ spec.own_arrays numbers.now (map (λ w. w.now) texts.now)) }
+fn all_array(inside: &Inside<'_>, texts: &[&[u8]], out: &mut Items<Use>) -> Result<(), Memory>
+    ensures { OnOk result
+        (out.new ≡ out.old
+        ++ spec.all_array inside.now.numbers.now inside.now.role.now (map (λ w. w.now) texts.now)) }
+{
+    for text in texts {
+        array(inside, text, out)?;
+    }
+    Ok(())
+}
+
+/// The uses of the variables that awk sets.
+fn own(numbers: &Numbers, out: &mut Items<Use>) -> Result<(), Memory>
+    ensures { OnOk result
+        (out.new ≡ out.old
+        ++ (spec.own_scalars numbers.now kinds.scalars ++ spec.own_arrays numbers.now kinds.arrays)) }
 {
     let begin = Role::Begin;
     let inside = Inside::new(numbers, &begin);
-    for text in texts {
-        array(&inside, text, out)?;
-    }
-    Ok(())
+    all_scalar(&inside, &SCALARS, out)?;
+    all_array(&inside, &ARRAYS, out)
 }
 
 /// The uses of the variables that awk sets, and then those in these items.
@@ -180,8 +195,7 @@ pub fn uses(alloc: Global, numbers: &Numbers, items: &[Section]) -> Result<Items
     ensures { IfOk result (λ uses. uses ≡ spec.uses numbers.now items.now) }
 {
     let mut out = Items::new(alloc);
-    own_scalars(numbers, &SCALARS, &mut out)?;
-    own_arrays(numbers, &ARRAYS, &mut out)?;
+    own(numbers, &mut out)?;
     parts(numbers, items, &mut out)?;
     Ok(out)
 }
@@ -244,16 +258,23 @@ fn link(table: &mut Vec<Items<usize>>, parameter: usize, number: usize) -> Resul
     Ok(())
 }
 
+fn add_links(table: &mut Vec<Items<usize>>, uses: &[Use]) -> Result<(), Memory>
+    ensures { OnOk result (table.new.items ≡ spec.linked uses.now table.old.items) }
+{
+    for one in uses {
+        if let Use::Handed(parameter, number) = one {
+            link(table, *parameter, *number)?;
+        }
+    }
+    Ok(())
+}
+
 /// For each of this many numbers, the numbers of the names that are handed to it.
 pub fn links(alloc: Global, count: usize, uses: &[Use]) -> Result<Vec<Items<usize>>, Memory>
     ensures { IfOk result (λ table. table.items ≡ spec.linked uses.now (replicate count [])) }
 {
     let mut table = no_links(alloc, count)?;
-    for one in uses {
-        if let Use::Handed(parameter, number) = one {
-            link(&mut table, *parameter, *number)?;
-        }
-    }
+    add_links(&mut table, uses)?;
     Ok(table)
 }
 
@@ -286,4 +307,80 @@ pub fn link_measured(
         }
     }
     Ok(())
+}
+
+/// The numbers that are reached so far, each put into the queue when it is marked.
+#[derive(Drop)]
+struct Reach {
+    marks: Items<bool>,
+    queue: Items<usize>,
+}
+
+fn unmarked(alloc: Global, count: usize) -> Result<Items<bool>, Memory>
+    ensures { IfOk result (λ marks. marks ≡ replicate count false) }
+{
+    let mut marks = Items::new(alloc);
+    for i in 0..count {
+        marks.push(false)?;
+    }
+    Ok(marks)
+}
+
+impl Reach {
+    fn new(alloc: Global, count: usize) -> Result<Reach, Memory>
+        ensures { IfOk result (λ reach. reach ≡ marking.fresh count) }
+    {
+        Ok(Reach {
+            marks: unmarked(alloc, count)?,
+            queue: Items::new(alloc),
+        })
+    }
+
+    /// Marks a number, unless it is marked.
+    fn mark(&mut self, n: usize) -> Result<(), Memory>
+        ensures { OnOk result (self.new ≡ marking.mark n self.old) }
+    {
+        if let Some(false) = self.marks.get(n) {
+            self.queue.push(n)?;
+            self.marks.set(n, true);
+        }
+        Ok(())
+    }
+
+    fn mark_all(&mut self, numbers: &[usize]) -> Result<(), Memory>
+        ensures { OnOk result (self.new ≡ marking.mark_all numbers.now self.old) }
+    {
+        for n in numbers {
+            self.mark(*n)?;
+        }
+        Ok(())
+    }
+
+    /// Marks all that a number is linked to.
+    fn follow(&mut self, links: &[Items<usize>], n: usize) -> Result<(), Memory>
+        ensures { OnOk result (self.new ≡ marking.follow n links.now self.old) }
+    {
+        match at(links, n) {
+            Some(next) => self.mark_all(next.as_slice()),
+            None => Ok(()),
+        }
+    }
+}
+
+/// Marks what is reached from the seeds: each number is looked at once, and so is each link.
+pub fn reached(
+    alloc: Global,
+    seeds: &[usize],
+    links: &[Items<usize>],
+) -> Result<Items<bool>, Memory>
+    ensures { IfOk result (λ marks. (n : ℕ) → (slice_get marks n ≡ Some true) ↔ Reached seeds.now links.now n) }
+{
+    let mut reach = Reach::new(alloc, links.len())?;
+    reach.mark_all(seeds)?;
+    let mut done = 0;
+    while let Some(&n) = reach.queue.get(done) {
+        reach.follow(links, n)?;
+        done += 1;
+    }
+    Ok(reach.marks)
 }

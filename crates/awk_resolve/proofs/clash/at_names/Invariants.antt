@@ -1,6 +1,0 @@
-use Rattle.std.proofs.Common.{take}
-use Rattle.awk_resolve.specs.Clash.{IsFirst, OneOf, NameAt}
-use Rattle.awk_resolve.proofs.clash.at_names.Given as goal
-
-abbrev pub invariant-loop-name : goal.invariant-loop-name
-invariant-loop-name l = IsFirst (OneOf (NameAt l.sought.kinds.now l.role) (take l.name-index l.names)) l.first

@@ -1,8 +1,0 @@
-use Rattle.std.proofs.Common.{◌≡◌, drop, map}
-use Rattle.awk_resolve.specs.Numbering as spec
-use Rattle.awk_resolve.proofs.globals.Globals.add_own.Given as goal
-
-abbrev pub invariant-loop-text : goal.invariant-loop-text
-invariant-loop-text l =
-    spec.with_own (map (λ w. w.now) l.texts) (spec.beside l.functions l.initial.self)
-    ≡ spec.with_own (map (λ w. w.now) (drop l.text-index l.texts)) (spec.beside l.functions l.self)

@@ -1,5 +1,0 @@
-use Rattle.std.proofs.Common.{ap, map}
-use Rattle.awk_resolve.proofs.roll.Roll.texts.Goals as goal
-
-pub returns : goal.returns
-returns c = rw (← c.self.view_is) (ap (map (λ t. t.items)) c.as_slice.ensures.keys)

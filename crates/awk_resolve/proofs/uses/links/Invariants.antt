@@ -1,6 +1,0 @@
-use Rattle.std.proofs.Common.{◌≡◌, [], drop, replicate}
-use Rattle.awk_resolve.specs.Uses as spec
-use Rattle.awk_resolve.proofs.uses.links.Given as goal
-
-abbrev pub invariant-loop-one : goal.invariant-loop-one
-invariant-loop-one l = spec.linked l.uses (replicate l.count []) ≡ spec.linked (drop l.one-index l.uses) l.table.items

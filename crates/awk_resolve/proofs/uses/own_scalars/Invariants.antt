@@ -1,7 +1,0 @@
-use Rattle.std.proofs.Common.{◌≡◌, ◌++◌, drop, map}
-use Rattle.awk_resolve.specs.Uses as spec
-use Rattle.awk_resolve.proofs.uses.own_scalars.Given as goal
-
-abbrev pub invariant-loop-text : goal.invariant-loop-text
-invariant-loop-text l = l.initial.out ++ spec.own_scalars l.numbers (map (λ w. w.now) l.texts) ≡ l.out
-    ++ spec.own_scalars l.numbers (map (λ w. w.now) (drop l.text-index l.texts))
