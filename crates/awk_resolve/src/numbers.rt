@@ -2,7 +2,7 @@
 
 ghost use Rattle.std.specs.Prelude.{◌≡◌, ◌+◌, length, map, slice_get, IfOk, OnOk};
 ghost use Rattle.std.specs.Option.{option_copied};
-ghost use Rattle.awk_resolve.specs.Kinds.{global, parameter, scalars, arrays};
+ghost use Rattle.awk_resolve.specs.Kinds.{global, parameter};
 ghost use Rattle.awk_resolve.specs.Numbering as spec;
 ghost use Rattle.awk_resolve.specs.Numbers as named;
 ghost use Rattle.awk_resolve.specs.TextTables.{with_text};
@@ -376,15 +376,19 @@ impl Globals {
         Ok(())
     }
 
-    /// The variables that awk sets.
-    fn add_own(&mut self, alloc: Global, functions: &TextTable<Scope>) -> Result<(), Memory>
+    /// Variables that awk sets.
+    fn add_own(
+        &mut self,
+        alloc: Global,
+        functions: &TextTable<Scope>,
+        texts: &[&[u8]],
+    ) -> Result<(), Memory>
         ensures { OnOk result (spec.beside functions.now self.new
-            ≡ spec.with_own arrays (spec.with_own scalars (spec.beside functions.now self.old))) }
+            ≡ spec.with_own (map (λ w. w.now) texts.now) (spec.beside functions.now self.old)) }
     {
         let begin = Role::Begin;
         let within = Within::new(functions, &begin);
-        self.add_names(alloc, &within, &SCALARS)?;
-        self.add_names(alloc, &within, &ARRAYS)
+        self.add_names(alloc, &within, texts)
     }
 
     fn add_argument(
@@ -478,7 +482,8 @@ impl Globals {
         ensures { OnOk result (spec.beside functions.now self.new
             ≡ spec.with_globals parts.now (spec.beside functions.now self.old)) }
     {
-        self.add_own(alloc, functions)?;
+        self.add_own(alloc, functions, &SCALARS)?;
+        self.add_own(alloc, functions, &ARRAYS)?;
         self.add_parts(alloc, functions, parts)
     }
 }
