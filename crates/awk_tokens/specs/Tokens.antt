@@ -90,8 +90,8 @@ abbrev pub is_whole : Text → Text → Bool
 is_whole digits rest =
     nat_le (value_of digits) 9223372036854775807 && (not (slice_index rest 0 == 46) && not (begins_exponent rest))
 
--- Which numbers the profile has: of doubles those up to the largest, and before any rest, since a numeral is longest
--- before it.
+-- whether the profile has the number: of whole ones one that is a whole number before this rest, of doubles one that is
+-- not beyond the largest, whatever the rest
 abbrev pub is_constant : Numbers → Text → Text → Bool
 is_constant Whole digits rest = is_whole digits rest
 is_constant Double numeral rest = is_ok (number numeral)

@@ -1,8 +1,9 @@
 //! The tokens of an awk script, with their places.
 //!
 //! A script is cut into numbers, strings, extended regular expressions, words, names and signs, as
-//! "Lexical Conventions" of POSIX.1-2017 XCU awk has them, in the whole-number profile of this
-//! project. [`tokens`] is the call for that; the relation `Reads` of specs/Reads.antt says what it means.
+//! "Lexical Conventions" of POSIX.1-2017 XCU awk has them, with numbers in one of two profiles:
+//! whole numbers, or IEEE doubles. [`tokens`] is the call for that; the relation `Reads` of
+//! specs/Reads.antt says what it means.
 //! [`is_name`] and [`reserved`] tell of one text whether it is a name or a word of the language;
 //! words.rt has the words, and what each is to the grammar.
 #![tactic(auto)]

@@ -145,7 +145,8 @@ fn next_token(
     Ok((token, len))
 }
 
-/// The tokens of a script, in order, each the longest at its place.
+/// The tokens of a script, in order, each the longest at its place. A number is digits where numbers are whole, and
+/// digits with a point and an exponent, or without, where they are doubles.
 ///
 /// Separators and comments stand between them, and the newline is a sign. A script is refused by S1,
 /// S2 or S3 at the first byte, string or pattern, or number that the lexical rule has no place for;

@@ -265,6 +265,7 @@ fn is_whole(digits: &[u8], rest: &[u8]) -> bool
 /// A token's kind and length, or the code of a refusal.
 pub type Scanned = Result<(TokenKind, usize), u8>;
 
+/// A whole number, or none where it has a point or an exponent.
 #[tactic(auto, using(crate::proofs::Runs::list_all_take))]
 fn whole(z: &[u8]) -> Scanned
     ensures { result ≡ spec.whole z.now }
@@ -278,6 +279,7 @@ fn whole(z: &[u8]) -> Scanned
     }
 }
 
+/// The longest numeral, where a double is near to it.
 fn double(z: &[u8]) -> Scanned
     ensures { result ≡ spec.double (constant z.now) }
 {
@@ -287,6 +289,7 @@ fn double(z: &[u8]) -> Scanned
     }
 }
 
+/// The number at the front of a text that begins as numbers do.
 #[tactic(auto, unfolding(crate::specs::Scan::number))]
 fn number(numbers: Numbers, z: &[u8]) -> Scanned
     ensures { result ≡ spec.number numbers z.now }

@@ -19,7 +19,8 @@ impl SyntaxError {
     pub const BYTE: u8 = 1;
     /// S2: a string or a pattern that is not closed on its line, at its start.
     pub const OPEN_TEXT: u8 = 2;
-    /// S3: a number with a point or an exponent, or over 9,223,372,036,854,775,807, at its start.
+    /// S3: a number that the profile has not, at its start: where numbers are whole, one with a point or an exponent,
+    /// or over 9,223,372,036,854,775,807; where they are doubles, one beyond the largest.
     pub const NUMBER: u8 = 3;
     /// S4: a token that cannot stand there, or the end.
     pub const TOKEN: u8 = 4;
