@@ -11,3 +11,4 @@ pub mod Remainders
 pub mod Figures
 pub mod Sizes
 pub mod Significant
+pub mod Styles

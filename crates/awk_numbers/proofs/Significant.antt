@@ -224,18 +224,18 @@ module _ (x : Float) (digits : List ℕ) (n s : ℕ) (are : AreFigures digits n)
       )
 
 -- ---- what is no number has the texts of 0
-by_mantissa : (x y : Float) (count : ℕ) → units_of x ≡ units_of y → mantissa x count ≡ mantissa y count
+pub by_mantissa : (x y : Float) (count : ℕ) → units_of x ≡ units_of y → mantissa x count ≡ mantissa y count
 by_mantissa x y count e =
     chosen_is x count ∙ ap (chosen count) (rounded_by x count ∙ ap (by_units count) e ∙ sym (rounded_by y count))
     ∙ sym (chosen_is y count)
 
-by_place : (x y : Float) (count : ℕ) → units_of x ≡ units_of y → place x count ≡ place y count
+pub by_place : (x y : Float) (count : ℕ) → units_of x ≡ units_of y → place x count ≡ place y count
 by_place x y count e =
     let same : rounded_figures x count ≡ rounded_figures y count =
     rounded_by x count ∙ ap (by_units count) e ∙ sym (rounded_by y count) in
     stands_is x count ∙ (λ i. stands count (e i) (length (digits_of 10 (e i))) (same i)) ∙ sym (stands_is y count)
 
-no_units_of : (x : Float) → float_is_finite x ≡ false → units_of (of_bits binary64 0) ≡ units_of x
+pub no_units_of : (x : Float) → float_is_finite x ≡ false → units_of (of_bits binary64 0) ≡ units_of x
 unfolding units_of float_is_finite of_bits
 no_units_of nan h = refl
 no_units_of (inf s) h = refl

@@ -6,4 +6,5 @@ pub mod Digits
 pub mod Figures
 pub mod Decimal
 pub mod Exponents
+pub mod General
 pub mod Functions

@@ -16,7 +16,11 @@ const UNIT: usize = 1074;
 
 /// So many digits of the size of a finite double, none for 0, and where the first one stands, counted from the place of
 /// 10^-1074.
-fn scientific(alloc: Global, x: f64, count: usize) -> Result<(Vec<u8>, usize), AllocError>
+pub(crate) fn scientific(
+    alloc: Global,
+    x: f64,
+    count: usize,
+) -> Result<(Vec<u8>, usize), AllocError>
     requires finite { T (float_is_finite x) }
     requires some { 0 < count }
     ensures digits { IfOk result (λ made. made.0.items ≡ map (λ d. 48 + d) (digits_of 10 (mantissa x count))) }
@@ -50,7 +54,7 @@ fn signed(alloc: Global, letter: u8, sign: u8, size: usize) -> Result<Vec<u8>, A
 }
 
 /// The exponent where the first digit stands there.
-fn exponent(alloc: Global, letter: u8, place: usize) -> Result<Vec<u8>, AllocError>
+pub(crate) fn exponent(alloc: Global, letter: u8, place: usize) -> Result<Vec<u8>, AllocError>
     ensures { IfOk result (λ made. made.items ≡ exponent_text letter place) }
 {
     if place < UNIT {

@@ -150,7 +150,7 @@ pub(crate) fn padded(alloc: Global, own: &[u8], least: usize) -> Result<Vec<u8>,
 }
 
 /// The text of the size of a finite double with so many digits behind the point.
-fn unsigned(alloc: Global, x: f64, places: u32) -> Result<Vec<u8>, AllocError>
+pub(crate) fn unsigned(alloc: Global, x: f64, places: u32) -> Result<Vec<u8>, AllocError>
     requires { T (float_is_finite x) }
     ensures { IfOk result (λ text. text.items ≡ fixed x places) }
 {

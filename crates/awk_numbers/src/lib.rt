@@ -6,6 +6,7 @@ pub mod doubles;
 pub mod exponents;
 pub mod fixed;
 pub mod functions;
+pub mod general;
 pub mod laws;
 pub mod number;
 pub mod numeral;

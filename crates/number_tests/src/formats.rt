@@ -1,6 +1,6 @@
-// Numbers by `%.Nf` and `%.Ne`.
+// Numbers by `%.Nf`, `%.Ne` and `%.Ng`.
 use awk_numbers::number::Number;
-use awk_numbers::{exponents, fixed, numeral};
+use awk_numbers::{exponents, fixed, general, numeral};
 
 const ROWS: [(&[u8], u32, &[u8]); 54] = [
     (b"0.125", 2, b"0.12"),
@@ -226,6 +226,54 @@ const EXPONENTS: [(&[u8], u32, &[u8]); 33] = [
 fn significant_digits(rt: HostRuntime) -> Result<(), std::alloc::AllocError> {
     for (i, (text, places, want)) in EXPONENTS.iter().enumerate() {
         let made = exponents::exponential(rt.alloc(), operand(text), *places, b'e')?;
+        assert_eq!(rt; made.as_slice(), *want, "row {i}");
+    }
+    Ok(())
+}
+
+const GENERAL: [(&[u8], u16, &[u8]); 36] = [
+    (b"0", 6, b"0"),
+    (b"1", 6, b"1"),
+    (b"3.14159265", 6, b"3.14159"),
+    (b"100000", 6, b"100000"),
+    (b"1000000", 6, b"1e+06"),
+    (b"999999.5", 6, b"1e+06"),
+    (b"999999.4", 6, b"999999"),
+    (b"123456.7", 6, b"123457"),
+    (b"1234567.8", 6, b"1.23457e+06"),
+    (b"0.0001", 6, b"0.0001"),
+    (b"0.00001", 6, b"1e-05"),
+    (b"0.00012345678", 6, b"0.000123457"),
+    (b"0.000099999995", 6, b"0.0001"),
+    (b"-2.5", 6, b"-2.5"),
+    (b"1e100", 6, b"1e+100"),
+    (b"1e-100", 6, b"1e-100"),
+    (b"0.1", 6, b"0.1"),
+    (b"0.1", 17, b"0.10000000000000001"),
+    (b"0.1", 30, b"0.100000000000000005551115123126"),
+    (b"1e23", 17, b"9.9999999999999992e+22"),
+    (b"5e-324", 17, b"4.9406564584124654e-324"),
+    (b"1.7976931348623157e308", 17, b"1.7976931348623157e+308"),
+    (b"100", 0, b"1e+02"),
+    (b"2.5", 0, b"2"),
+    (b"3.5", 1, b"4"),
+    (b"9.5", 1, b"1e+01"),
+    (b"123", 2, b"1.2e+02"),
+    (b"0.5", 20, b"0.5"),
+    (b"1e15", 16, b"1000000000000000"),
+    (b"1e16", 16, b"1e+16"),
+    (b"17.0", 3, b"17"),
+    (b"120", 3, b"120"),
+    (b"-0.00001234", 2, b"-1.2e-05"),
+    (b"99.5", 2, b"1e+02"),
+    (b"12345.678", 7, b"12345.68"),
+    (b"1e5", 5, b"1e+05"),
+];
+
+#[test]
+fn general_style(rt: HostRuntime) -> Result<(), std::alloc::AllocError> {
+    for (i, (text, precision, want)) in GENERAL.iter().enumerate() {
+        let made = general::general(rt.alloc(), operand(text), *precision, b'e')?;
         assert_eq!(rt; made.as_slice(), *want, "row {i}");
     }
     Ok(())
