@@ -1,4 +1,5 @@
 // Commands that let more through than they seem to.
+use crate::bytes::{before_first, behind_last};
 use crate::page::Page;
 
 const READS: &str = "does what its input says";
@@ -55,8 +56,8 @@ const PROGRAMS: [(&str, &str); 40] = [
 
 /// The last component of the first word of a command.
 fn program_of(command: &[u8]) -> &[u8] {
-    let word = command.split(|b| *b == b' ').next().unwrap_or(command);
-    word.rsplit(|b| *b == b'/').next().unwrap_or(word)
+    let word = before_first(command, b' ');
+    word.get(behind_last(word, b'/')..).unwrap_or(word)
 }
 
 /// Whether a word of the command is the option that names a file for the output of `sort`.
@@ -66,15 +67,22 @@ fn has_output(command: &[u8]) -> bool {
         .any(|word| word.starts_with(b"-o") || word.starts_with(b"--o"))
 }
 
-/// The program of the command, where it is one of those that do more.
-fn known_program(command: &[u8]) -> Option<(&'static str, &'static str)> {
-    let word = program_of(command);
-    for (name, deed) in PROGRAMS {
+/// Which of these programs it is.
+fn listed(
+    word: &[u8],
+    programs: &[(&'static str, &'static str)],
+) -> Option<(&'static str, &'static str)> {
+    for (name, deed) in programs {
         if name.as_bytes() == word {
-            return Some((name, deed));
+            return Some((*name, *deed));
         }
     }
     None
+}
+
+/// The program of the command, where it is one of those that do more.
+fn known_program(command: &[u8]) -> Option<(&'static str, &'static str)> {
+    listed(program_of(command), PROGRAMS.as_slice())
 }
 
 /// What a command's pattern lets through that its writer may not have meant.

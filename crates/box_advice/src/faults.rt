@@ -1,5 +1,6 @@
 // What is wrong with a policy that is refused, in words. `Policy::read` says which code and which rule it is; here is
 // looked up what stands there.
+use crate::covers::is_plain;
 use crate::nearest::put_hint;
 use crate::page::Page;
 use box_policy::error::PolicyError;
@@ -144,7 +145,7 @@ fn base_reason(base: &str) -> &'static str {
     if !base.starts_with('/') {
         return "base does not begin with /";
     }
-    if bytes.iter().any(|b| *b == b'*' || *b == b'?') {
+    if !is_plain(bytes) {
         return "base holds * or ?";
     }
     if bytes.contains(&0) {

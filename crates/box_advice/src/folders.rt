@@ -1,4 +1,5 @@
 // Many names of one folder with one ending.
+use crate::bytes::{behind_last, last_place};
 use crate::explaining::is_of_files;
 use crate::page::Page;
 use crate::printing::put_names;
@@ -19,17 +20,9 @@ pub(crate) struct Names<'a> {
     pub(crate) ending: &'a [u8],
 }
 
-// Where the name of a path begins.
-fn name_at(path: &[u8]) -> usize {
-    match path.iter().rposition(|b| *b == b'/') {
-        Some(slash) => slash.saturating_add(1),
-        None => 0,
-    }
-}
-
 // From its last dot, where that is neither its first nor its last byte.
 fn ending_of(name: &[u8]) -> Option<&[u8]> {
-    let dot = name.iter().rposition(|b| *b == b'.')?;
+    let dot = last_place(name, b'.')?;
     let ending = name.get(dot..)?;
     if dot == 0 || ending.len() < 2 {
         return None;
@@ -43,7 +36,7 @@ fn names_of(rule: &Rule) -> Option<Names<'_>> {
         return None;
     }
     let path = rule.pattern.bytes();
-    let at = name_at(path);
+    let at = behind_last(path, b'/');
     let folder = path.get(..at)?;
     let ending = ending_of(path.get(at..)?)?;
     Some(Names {

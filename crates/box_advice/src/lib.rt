@@ -5,6 +5,7 @@
 //! [`propose`] writes a policy that allows more.
 #![tactic(auto)]
 
+mod bytes;
 mod commands;
 mod covers;
 mod cuts;

@@ -3,6 +3,7 @@ ghost use Rattle.std.specs.Prelude.{◌≡◌, false, option_map, IfOk};
 ghost use Rattle.box_policy.specs.Refusals.{no_memory};
 ghost use Rattle.box_advice.specs.Lints.{FindsNone, FindsRefused, Lints};
 
+use crate::bytes::is_newline;
 use crate::faults::{Mistake, fault_in, rules_of};
 use crate::lookalikes::put_lookalike;
 use crate::page::Page;
@@ -26,11 +27,7 @@ pub struct Findings {
 
 fn line_at(text: &[u8], at: usize) -> usize {
     let before = text.get(..at).unwrap_or(text);
-    before
-        .iter()
-        .filter(|byte| **byte == b'\n')
-        .count()
-        .saturating_add(1)
+    before.split(is_newline).count()
 }
 
 // The line of a mistake above the rules: of its key, or else the first one, where a key may be written.

@@ -1,4 +1,5 @@
 // Characters that look like those of TOML, and are none.
+use crate::bytes::{before_first, behind_last};
 use crate::page::Page;
 
 /// Characters, and what they are taken for.
@@ -17,24 +18,24 @@ const LOOKALIKES: [(char, &str); 12] = [
     ('\u{ff1d}', "an equals sign"),
 ];
 
-fn like_of(c: char) -> Option<&'static str> {
-    for (character, like) in LOOKALIKES {
-        if character == c {
-            return Some(like);
+fn listed(c: char, lookalikes: &[(char, &'static str)]) -> Option<&'static str> {
+    for (character, like) in lookalikes {
+        if *character == c {
+            return Some(*like);
         }
     }
     None
 }
 
+fn like_of(c: char) -> Option<&'static str> {
+    listed(c, LOOKALIKES.as_slice())
+}
+
 /// The line of the text that this place stands on.
 fn line_with(text: &[u8], at: usize) -> &[u8] {
     let before = text.get(..at).unwrap_or(text);
-    let start = match before.iter().rposition(|b| *b == b'\n') {
-        Some(newline) => newline.saturating_add(1),
-        None => 0,
-    };
-    let rest = text.get(start..).unwrap_or(&[]);
-    rest.split(|b| *b == b'\n').next().unwrap_or(rest)
+    let rest = text.get(behind_last(before, b'\n')..).unwrap_or(&[]);
+    before_first(rest, b'\n')
 }
 
 /// Such a character, the column where it stands, and what it is taken for.

@@ -1,10 +1,11 @@
 // Patterns that look like those of another language, or not like what they are.
+use crate::bytes::first_place;
 use crate::explaining::is_of_files;
 use crate::page::Page;
 use box_policy::policy::{Kind, Rule};
 
 fn has_between(text: &[u8], open: u8, close: u8) -> bool {
-    match text.iter().position(|b| *b == open) {
+    match first_place(text, open) {
         Some(at) => text.get(at..).unwrap_or(&[]).contains(&close),
         None => false,
     }
@@ -30,7 +31,7 @@ fn path_words(pattern: &[u8]) -> Option<&'static str> {
     if has_between(pattern, b'[', b']') {
         return Some("[ and ] stand for themselves; ? is any one byte");
     }
-    if pattern.windows(2).any(|pair| pair == b".*".as_slice()) && pattern.ends_with(b"/.*") {
+    if pattern.ends_with(b"/.*") {
         return Some(".* fits names that begin with a dot; any name is *");
     }
     if pattern.len() > 1 && pattern.ends_with(b"/") {

@@ -1,4 +1,5 @@
 // Where the rules of a policy stand in its text.
+use crate::bytes::is_newline;
 use awk_text::Memory;
 use box_policy::policy::Policy;
 use std::alloc::Global;
@@ -53,7 +54,7 @@ impl Places {
     /// The places of so many rules.
     pub fn of(alloc: Global, text: &[u8], rules: usize) -> Result<Places, Memory> {
         let mut lines = Vec::new(alloc);
-        for (at, line) in text.split(|byte| *byte == b'\n').enumerate() {
+        for (at, line) in text.split(is_newline).enumerate() {
             if is_rule_header(line) {
                 lines.push(at.saturating_add(1))?;
             }
@@ -84,7 +85,7 @@ fn gives(line: &[u8], key: &str) -> bool {
 /// The line, counted from 1, that gives the key a value in the table that begins on this line; of the top table, which
 /// has no line of its own, it is 0.
 pub fn key_line(text: &[u8], table: usize, key: &str) -> Option<usize> {
-    for (at, line) in text.split(|byte| *byte == b'\n').enumerate() {
+    for (at, line) in text.split(is_newline).enumerate() {
         if at >= table {
             if gives(line, key) {
                 return Some(at.saturating_add(1));
@@ -112,7 +113,7 @@ fn heads(line: &[u8], key: &str) -> bool {
 
 /// The first line, counted from 1, that begins a table which this top key leads to.
 pub fn header_line(text: &[u8], key: &str) -> Option<usize> {
-    for (at, line) in text.split(|byte| *byte == b'\n').enumerate() {
+    for (at, line) in text.split(is_newline).enumerate() {
         if heads(line, key) {
             return Some(at.saturating_add(1));
         }

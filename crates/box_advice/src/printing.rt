@@ -1,5 +1,6 @@
 // Rules and comments as they are written in a policy's text. What is written is read again before it is handed out, so
 // that no claim rests on this.
+use crate::covers::is_plain;
 use crate::folders::Names;
 use crate::page::Page;
 use crate::wanting::Fate;
@@ -150,7 +151,7 @@ fn put_text(text: &[u8], page: &mut Page) {
 
 fn has_wildcard(kind: Kind, text: &[u8]) -> bool {
     match kind {
-        Kind::Read | Kind::Write | Kind::Append => text.iter().any(|b| *b == b'*' || *b == b'?'),
+        Kind::Read | Kind::Write | Kind::Append => !is_plain(text),
         Kind::Run | Kind::Env | Kind::Assign => text.contains(&b'*'),
     }
 }
