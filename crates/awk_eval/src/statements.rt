@@ -1,7 +1,7 @@
 // Statements.
 ghost use Rattle.std.specs.Prelude.{[], map, option_map};
 ghost use Rattle.awk_streams.specs.Tasks.{Owns};
-ghost use Rattle.awk_input.specs.MeetsWhole.{MeetsWhole};
+ghost use Rattle.awk_input.specs.Performs.{MeetsWhole};
 ghost use Rattle.awk_machine.specs.Pieces.{At, Do, Doing, Each, Start};
 ghost use Rattle.awk_machine.specs.State.{Given};
 ghost use Rattle.awk_program.specs.Program as p;

@@ -46,7 +46,7 @@ use Rattle.awk_store.proofs.Acting.{at_rest, alters, done}
 use Rattle.awk_input.specs.Hosts.{Hosted, IsHost, is_given}
 use Rattle.awk_input.specs.Operands.{IsBut, Moves, begun_or, current_key, opening_of}
 use Rattle.awk_input.specs.Inputs.{found_main}
-use Rattle.awk_input.specs.MeetsWhole.{LeadsWhole, MeetsWhole}
+use Rattle.awk_input.specs.Performs.{LeadsWhole, MeetsWhole}
 use Rattle.awk_input.proofs.MainSteps.{main_agrees}
 use Rattle.awk_input.proofs.Opening.{fresh, tells_opening, tells_same}
 use Rattle.awk_input.proofs.Restored.{restored}

@@ -44,7 +44,7 @@ use Rattle.awk_store.specs.declared.spot.Spot.{Spot}
 use Rattle.awk_store.proofs.Lifting.{apart, apart-text, lifted_at}
 use Rattle.awk_store.proofs.Acting.{acted, at_rest, moves, alters, done, faulted}
 use Rattle.awk_input.specs.Gots.{IsGot}
-use Rattle.awk_input.specs.MeetsWhole.{LeadsWhole, MeetsWhole, MeetsIn}
+use Rattle.awk_input.specs.Performs.{LeadsWhole, MeetsWhole, MeetsIn}
 use Rattle.awk_input.specs.Inputs.{IsMainLine, after_operands, found_main, meeting, message, past_standard, taken}
 
 -- ---- how far the main input is read

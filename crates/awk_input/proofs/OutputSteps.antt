@@ -14,7 +14,7 @@ use Rattle.awk_streams.proofs.Chain.{part, stop}
 use Rattle.awk_streams.proofs.Numbers.{among_all, found_once}
 use Rattle.awk_store.specs.Wholes.{Whole}
 use Rattle.awk_input.specs.Inputs.{LeadsOrHalts}
-use Rattle.awk_input.specs.MeetsWhole.{LeadsWhole, MeetsWhole}
+use Rattle.awk_input.specs.Performs.{LeadsWhole, MeetsWhole}
 
 -- a stream that is open is the world's
 pub open_duty : (numbers : List ℕ) (c : Class) (t : Text) (n : ℕ) (table : Table) → find_stream c t (open_of table)

@@ -22,7 +22,7 @@ use Rattle.awk_store.specs.Spots.{IsSpotOf, meant, value_of}
 use Rattle.awk_store.specs.Wholes.{Whole, Agreeing, base, names_in, used}
 use Rattle.awk_store.specs.declared.spot.Spot.{Spot}
 use Rattle.awk_input.specs.Gots.{IsGot, piped_of, read_of}
-use Rattle.awk_input.specs.MeetsWhole.{MeetsWhole}
+use Rattle.awk_input.specs.Performs.{MeetsWhole}
 
 -- the stream of a file's name
 pub standard_file : (place : Place) (text : Text) (k : List Piece) → bytes_eq text (codes "-") ≡ true

@@ -19,7 +19,7 @@ use Rattle.awk_streams.specs.Tables.{Table}
 use Rattle.awk_streams.specs.Tasks.{goes_on}
 use Rattle.awk_store.specs.Kept.{Kept, own_text}
 use Rattle.awk_store.specs.Wholes.{Whole}
-use Rattle.awk_input.specs.MeetsWhole.{LeadsWhole, MeetsWhole}
+use Rattle.awk_input.specs.Performs.{LeadsWhole, MeetsWhole}
 
 -- ---- how far it is read
 

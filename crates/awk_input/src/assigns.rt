@@ -13,7 +13,7 @@ ghost use Rattle.awk_store.specs.Wholes.{Whole};
 ghost use Rattle.awk_input.specs.Hosts.{IsHost, can_set};
 ghost use Rattle.awk_input.specs.Operands as spec;
 ghost use Rattle.awk_input.specs.Operands.{Moves};
-ghost use Rattle.awk_input.specs.MeetsWhole.{MeetsWhole};
+ghost use Rattle.awk_input.specs.Performs.{MeetsWhole};
 
 use crate::host::Host;
 use awk_program::Variable;

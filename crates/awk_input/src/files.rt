@@ -15,7 +15,7 @@ ghost use Rattle.awk_store.specs.Wholes.{Whole};
 ghost use Rattle.awk_input.specs.Hosts.{IsHost};
 ghost use Rattle.awk_input.specs.Inputs.{LeadsOrHalts, found_main, taken};
 ghost use Rattle.awk_input.specs.Operands.{IsBut, Moves, begun_or, current_key, opening_of};
-ghost use Rattle.awk_input.specs.MeetsWhole.{LeadsWhole, MeetsWhole};
+ghost use Rattle.awk_input.specs.Performs.{LeadsWhole, MeetsWhole};
 
 use crate::host::Host;
 use crate::progress::take_out;

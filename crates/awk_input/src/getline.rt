@@ -13,7 +13,7 @@ ghost use Rattle.awk_store.specs.Acts.{Acts};
 ghost use Rattle.awk_store.specs.Spots.{IsSpotOf, value_of};
 ghost use Rattle.awk_store.specs.Wholes.{names_in};
 ghost use Rattle.awk_input.specs.Gots.{piped_of, read_of};
-ghost use Rattle.awk_input.specs.MeetsWhole.{MeetsWhole};
+ghost use Rattle.awk_input.specs.Performs.{MeetsWhole};
 
 use crate::counted::{Counted, Getline, set_record};
 use awk_program::Own;

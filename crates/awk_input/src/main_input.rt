@@ -13,7 +13,7 @@ ghost use Rattle.awk_store.specs.Spots.{IsSpotOf, value_of};
 ghost use Rattle.awk_store.specs.Wholes.{Whole, names_in};
 ghost use Rattle.awk_input.specs.Hosts.{IsHost};
 ghost use Rattle.awk_input.specs.Inputs.{IsMainLine, LeadsOrHalts, at_records, counted_on, found_main, meeting, taken};
-ghost use Rattle.awk_input.specs.MeetsWhole.{LeadsWhole, MeetsWhole, MeetsIn};
+ghost use Rattle.awk_input.specs.Performs.{LeadsWhole, MeetsWhole, MeetsIn};
 
 use crate::counted::{Counted, Getline, count_both, set_record};
 use crate::files::take_file;

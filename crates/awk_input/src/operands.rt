@@ -14,7 +14,7 @@ ghost use Rattle.awk_streams.specs.Tasks.{Owns, goes_on};
 ghost use Rattle.awk_store.specs.Wholes.{Whole};
 ghost use Rattle.awk_input.specs.Hosts.{IsHost};
 ghost use Rattle.awk_input.specs.Operands.{Moves, argv, is_assigning};
-ghost use Rattle.awk_input.specs.MeetsWhole.{MeetsWhole};
+ghost use Rattle.awk_input.specs.Performs.{MeetsWhole};
 
 use crate::assigns::{AssignmentOperand, assign};
 use crate::files::begin_input;

@@ -6,7 +6,7 @@ ghost use Rattle.awk_store.specs.Changes.{with_main};
 ghost use Rattle.awk_streams.specs.Tables.{Table};
 ghost use Rattle.awk_streams.specs.Tasks.{goes_on};
 ghost use Rattle.awk_input.specs.Inputs as spec;
-ghost use Rattle.awk_input.specs.MeetsWhole.{MeetsWhole};
+ghost use Rattle.awk_input.specs.Performs.{MeetsWhole};
 
 use crate::progress::fail;
 use awk_store::Store;

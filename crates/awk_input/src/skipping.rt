@@ -9,7 +9,7 @@ ghost use Rattle.awk_streams.specs.Flows.{flows};
 ghost use Rattle.awk_store.specs.Wholes.{Whole};
 ghost use Rattle.awk_streams.specs.Tasks.{Owns};
 ghost use Rattle.awk_input.specs.Inputs.{LeadsOrHalts};
-ghost use Rattle.awk_input.specs.MeetsWhole.{LeadsWhole, MeetsWhole};
+ghost use Rattle.awk_input.specs.Performs.{LeadsWhole, MeetsWhole};
 
 use crate::files::pass_file;
 use crate::progress::pass_standard;

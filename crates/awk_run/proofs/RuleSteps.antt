@@ -26,7 +26,7 @@ use Rattle.awk_streams.specs.declared.flow.Flow.TheVariants as flow
 use Rattle.awk_store.specs.States.{Hidden}
 use Rattle.awk_store.specs.Wholes.{Whole, Agreeing, base, names_in, used}
 use Rattle.awk_input.specs.Inputs.{at_records, more}
-use Rattle.awk_input.specs.MeetsWhole.{LeadsWhole, MeetsWhole, MeetsIn}
+use Rattle.awk_input.specs.Performs.{LeadsWhole, MeetsWhole, MeetsIn}
 use Rattle.awk_machine.specs.Statements.{to_records}
 use Rattle.awk_streams.proofs.Chain.{halted-after}
 use Rattle.awk_run.specs.Rules.{come_back, rule_of}
