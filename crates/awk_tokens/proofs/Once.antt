@@ -32,7 +32,8 @@ use Rattle.awk_tokens.proofs.SignLemmas.{sign_first}
 use Rattle.awk_tokens.proofs.NumeralLemmas.{numeral_some}
 use Rattle.awk_tokens.proofs.GapLemmas.{blank_len, joined_len, comment_len}
 use Rattle.awk_tokens.proofs.FirstLemmas.{Family, a_number, a_word, a_string, a_pattern, a_sign, family_of, family_at}
-use Rattle.awk_tokens.proofs.FirstLemmas.{number_byte, numeral_front, family_told, as_string, as_pattern, as_sign, head_is, tail_is}
+use Rattle.awk_tokens.proofs.FirstLemmas.{number_byte, numeral_front, family_told, as_string, as_pattern, as_sign}
+use Rattle.awk_tokens.proofs.FirstLemmas.{head_is, tail_is}
 
 -- ---- a separator is no token, and there is one at most
 

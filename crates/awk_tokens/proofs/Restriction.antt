@@ -31,9 +31,11 @@ use Rattle.awk_tokens.specs.declared.kinds.TokenKind.{TokenKind}
 use Rattle.awk_tokens.specs.declared.kinds.TokenKind.TheVariants.{Number, Quoted, Pattern, Keyword, Builtin, Refused}
 use Rattle.awk_tokens.specs.declared.kinds.TokenKind.TheVariants.{Name, CallName, Sign}
 use Rattle.awk_tokens.proofs.FirstLemmas.{a_number, family_of, family_at, other_family, family_told, as_number}
-use Rattle.awk_tokens.proofs.NumeralLemmas.{pointed_len, mantissa_len, mantissa_to, exponent_len, numeral_len, is_signed}
+use Rattle.awk_tokens.proofs.NumeralLemmas.{pointed_len, mantissa_len, mantissa_to, exponent_len}
+use Rattle.awk_tokens.proofs.NumeralLemmas.{numeral_len, is_signed}
 use Rattle.awk_tokens.proofs.NumeralLemmas.{lead_len, has_power, one_order, one_up, number_all}
-use Rattle.awk_tokens.proofs.NumeralLemmas.{numeral_covers, none_left, digits_in, built, scan_built, scan_some, number_is}
+use Rattle.awk_tokens.proofs.NumeralLemmas.{numeral_covers, none_left, digits_in, built, scan_built}
+use Rattle.awk_tokens.proofs.NumeralLemmas.{scan_some, number_is}
 use Rattle.awk_tokens.proofs.Once.{no_token_empty, point_no_token}
 
 -- ---- digits are a numeral

@@ -18,8 +18,8 @@ loop-start-preserved-then-gap-ne0 c =
     let script = c.args.script.now in
     let same = rest_range script c.loop-start.start in
     let gap = c.gap_len-gap.result in
-    gap_step c.args.numbers script c.loop-start.start c.loop-start.place c.loop-start.operand c.loop-start.found.items gap
-    c.place_after-place.result c.loop-start.invariant (ap gap_len (sym same) ∙ sym c.gap_len-gap.ensures.value)
+    gap_step c.args.numbers script c.loop-start.start c.loop-start.place c.loop-start.operand c.loop-start.found.items
+    gap c.place_after-place.result c.loop-start.invariant (ap gap_len (sym same) ∙ sym c.gap_len-gap.ensures.value)
     c.if-gap-ne0.true
     (λ front placed. c.place_after-place.ensures front placed ∙ ap (λ w. place_after (front ++ take gap w)) same)
 
