@@ -1,5 +1,6 @@
 -- Whole numbers by their digits.
-use Rattle.std.proofs.Common.{ℕ, zero, suc, ◌≡◌, ◌+◌, ◌-◌, ◌*◌, ◌/◌, ◌%◌, ◌^◌, ◌<◌, ◌≤◌, ◌⊎◌, inl, inr, List, [], ◌∷◌, ◌++◌}
+use Rattle.std.proofs.Common.{ℕ, zero, suc, ◌≡◌, ◌+◌, ◌-◌, ◌*◌, ◌/◌, ◌%◌, ◌^◌, ◌<◌, ◌≤◌}
+use Rattle.std.proofs.Common.{◌⊎◌, inl, inr, List, [], ◌∷◌, ◌++◌}
 use Rattle.std.proofs.Common.{length, get_or, set, drop, reverse, refl, sym, ap, subst, ◌∙◌, arith, length-append}
 use Rattle.std.proofs.Common.{add-one, mul-le-mul_right, div-one}
 use Rattle.std.specs.Int.Digits.{digits_of}
@@ -134,7 +135,8 @@ renamed xs m n e are = subst (AreFigures xs) e are
 below_cons : (d : ℕ) (ds : List ℕ) (i : ℕ) → below (d ∷ ds) (suc i) ≡ d + below ds i * 10
 unfolding below
 below_cons d ds zero = omega arith
-below_cons d ds (suc i) = omega (arith, below_cons d ds i, pow-suc 10 i, ap (λ (t : ℕ). get_or ds i 0 * t) (pow-suc 10 i))
+below_cons d ds (suc i) =
+    omega (arith, below_cons d ds i, pow-suc 10 i, ap (λ (t : ℕ). get_or ds i 0 * t) (pow-suc 10 i))
 
 whole : (d : ℕ) (ds : List ℕ) (n : ℕ) → AreFigures (d ∷ ds) n → n ≡ d + below ds (length ds) * 10
 whole d ds n are = sym are.value ∙ below_cons d ds (length ds)

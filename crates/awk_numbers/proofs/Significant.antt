@@ -1,6 +1,7 @@
 -- So many significant digits of a double.
 use Rattle.std.proofs.Common.{ℕ, zero, suc, ◌≡◌, ◌+◌, ◌-◌, ◌*◌, ◌/◌, ◌^◌, ◌<◌, ◌≤◌, List, [], ◌∷◌, ◌++◌, length, map}
-use Rattle.std.proofs.Common.{replicate, reverse, take, refl, sym, ap, subst, ◌∙◌, arith, mul-pos, Bool, true, false, ◌==◌, ◌⊎◌, inl, inr, true≢false}
+use Rattle.std.proofs.Common.{replicate, reverse, take, Bool, true, false, ◌==◌, ◌⊎◌, inl, inr, true≢false}
+use Rattle.std.proofs.Common.{refl, sym, ap, subst, ◌∙◌, arith, mul-pos}
 use Rattle.std.specs.Bool.{if◌then◌else◌}
 use Rattle.std.proofs.lemmas.Nat.{pow-add}
 use Rattle.std.proofs.lemmas.Bool.{eq-eqb, ne_eqb}
@@ -56,43 +57,44 @@ longer n z h =
     sym (length_of (n * 10 ^ z)) ∙ ap length (with_zeros n z h) ∙ length-append (text n) (replicate z 48)
     ∙ (λ i. length_of n i + length-replicate {A = ℕ} z 48 i)
 
-module _ (x : Float) (digits : List ℕ) (n s : ℕ) (are : AreFigures digits n) (size : IsSize x n s) (few : s ≤ 1074) where
-  own_length : length (digits_of 10 n) ≡ length digits
-  own_length = ap length (are_digits digits n are) ∙ length-reverse digits
+module _ (x : Float) (digits : List ℕ) (n s : ℕ) (are : AreFigures digits n) (size : IsSize x n s) (few : s ≤ 1074)
+  where
+    own_length : length (digits_of 10 n) ≡ length digits
+    own_length = ap length (are_digits digits n are) ∙ length-reverse digits
 
-  pub figures_at : 0 < n → figures x ≡ length digits + (1074 - s)
-  figures_at h =
-      ap (λ (u : ℕ). length (digits_of 10 u)) (units_at x n s size few) ∙ longer n (1074 - s) h
-      ∙ ap (λ (l : ℕ). l + (1074 - s)) own_length
+    pub figures_at : 0 < n → figures x ≡ length digits + (1074 - s)
+    figures_at h =
+        ap (λ (u : ℕ). length (digits_of 10 u)) (units_at x n s size few) ∙ longer n (1074 - s) h
+        ∙ ap (λ (l : ℕ). l + (1074 - s)) own_length
 
-  pub rounded_at : (count : ℕ) → 0 < n → closest (n * 10 ^ count) (10 ^ length digits) ≡ rounded_figures x count
-  unfolding rounded_figures
-  rounded_at count h =
-      let z = 1074 - s in
-      let wide : 10 ^ (length digits + z) ≡ 10 ^ length digits * 10 ^ z = pow-add 10 (length digits) z in
-      closest_same (n * 10 ^ count) (10 ^ length digits) (n * 10 ^ z * 10 ^ count) (10 ^ (length digits + z))
-      (ten_pos (length digits)) (ten_pos (length digits + z))
-      (omega (arith, ap (λ (k : ℕ). n * 10 ^ count * k) wide))
-      ∙ sym (λ i. closest (units_at x n s size few i * 10 ^ count) (10 ^ figures_at h i))
+    pub rounded_at : (count : ℕ) → 0 < n → closest (n * 10 ^ count) (10 ^ length digits) ≡ rounded_figures x count
+    unfolding rounded_figures
+    rounded_at count h =
+        let z = 1074 - s in
+        let wide : 10 ^ (length digits + z) ≡ 10 ^ length digits * 10 ^ z = pow-add 10 (length digits) z in
+        closest_same (n * 10 ^ count) (10 ^ length digits) (n * 10 ^ z * 10 ^ count) (10 ^ (length digits + z))
+        (ten_pos (length digits)) (ten_pos (length digits + z))
+        (omega (arith, ap (λ (k : ℕ). n * 10 ^ count * k) wide))
+        ∙ sym (λ i. closest (units_at x n s size few i * 10 ^ count) (10 ^ figures_at h i))
 
-  pub at_most : (count : ℕ) → 0 < n → rounded_figures x count ≤ 10 ^ count
-  at_most count h =
-      let small : n < 10 ^ length digits = subst (λ (k : ℕ). k < 10 ^ length digits) are.value
-      (below-lt digits (length digits) are.each) in
-      let most : closest (n * 10 ^ count) (10 ^ length digits) ≤ closest (10 ^ count) 1 =
-      closest_mono (n * 10 ^ count) (10 ^ length digits) (10 ^ count) 1 (ten_pos (length digits)) (omega arith)
-      (omega (arith, Rattle.std.proofs.Common.mul-le-mul_right (10 ^ count) (below_is n (10 ^ length digits) small))) in
-      subst (λ (k : ℕ). k ≤ 10 ^ count) (rounded_at count h) (subst (λ (k : ℕ). closest (n * 10 ^ count)
-      (10 ^ length digits) ≤ k) (closest_whole (10 ^ count)) most)
-    where
-      below_is : (a b : ℕ) → a < b → a ≤ b
-      below_is a b h = omega arith
+    pub at_most : (count : ℕ) → 0 < n → rounded_figures x count ≤ 10 ^ count
+    at_most count h =
+        let small : n < 10 ^ length digits = subst (λ (k : ℕ). k < 10 ^ length digits) are.value
+        (below-lt digits (length digits) are.each) in
+        let most : closest (n * 10 ^ count) (10 ^ length digits) ≤ closest (10 ^ count) 1 =
+        closest_mono (n * 10 ^ count) (10 ^ length digits) (10 ^ count) 1 (ten_pos (length digits)) (omega arith)
+        (omega (arith, Rattle.std.proofs.Common.mul-le-mul_right (10 ^ count) (below_is n (10 ^ length digits) small))) in
+        subst (λ (k : ℕ). k ≤ 10 ^ count) (rounded_at count h) (subst (λ (k : ℕ). closest (n * 10 ^ count)
+        (10 ^ length digits) ≤ k) (closest_whole (10 ^ count)) most)
+      where
+        below_is : (a b : ℕ) → a < b → a ≤ b
+        below_is a b h = omega arith
 
-  pub some_units : 0 < n → 0 < units_of x
-  some_units h = subst (λ (k : ℕ). 0 < k) (sym (units_at x n s size few)) (mul-pos h (ten_pos (1074 - s)))
+    pub some_units : 0 < n → 0 < units_of x
+    some_units h = subst (λ (k : ℕ). 0 < k) (sym (units_at x n s size few)) (mul-pos h (ten_pos (1074 - s)))
 
-  pub no_units : n ≡ 0 → units_of x ≡ 0
-  no_units e = units_at x n s size few ∙ ap (λ (k : ℕ). k * 10 ^ (1074 - s)) e ∙ omega arith
+    pub no_units : n ≡ 0 → units_of x ≡ 0
+    no_units e = units_at x n s size few ∙ ap (λ (k : ℕ). k * 10 ^ (1074 - s)) e ∙ omega arith
 
 -- ---- by whether they are rounded up to a power of ten
 by_units : ℕ → ℕ → ℕ

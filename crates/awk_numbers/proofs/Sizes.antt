@@ -1,6 +1,7 @@
 -- The size of a double by its digits, and how it is rounded.
 use Rattle.std.proofs.Common.{ℕ, zero, suc, ◌≡◌, ◌+◌, ◌-◌, ◌*◌, ◌/◌, ◌%◌, ◌^◌, ◌<◌, ◌≤◌, List, [], ◌∷◌, ◌++◌, length}
-use Rattle.std.proofs.Common.{map, replicate, reverse, length-append, refl, sym, ap, ◌∙◌, arith, mul-pos, true≢false, false}
+use Rattle.std.proofs.Common.{map, replicate, reverse, length-append}
+use Rattle.std.proofs.Common.{refl, sym, ap, ◌∙◌, arith, mul-pos, true≢false, false}
 use Rattle.std.proofs.lemmas.Nat.{pow_pos, pow-add, mul-pow}
 use Rattle.std.specs.Float.{Float, nan, inf, fin, binary64, float_is_finite}
 use Rattle.std.specs.Fmt.{decimal}
@@ -33,7 +34,8 @@ chunks n b c t e =
 -- ---- the size by its digits
 small_by : (M D n t f w p : ℕ) → 0 < t → M * (w * t) ≡ n * t * D → p ≡ w * f → M * p ≡ n * f * D
 small_by M D n t f w p pos e g =
-    eq_of_mul-eq-mul_right t pos (M * p) (n * f * D) (omega (arith, ap (λ (k : ℕ). k * f) e, ap (λ (k : ℕ). M * k * t) g))
+    eq_of_mul-eq-mul_right t pos (M * p) (n * f * D)
+    (omega (arith, ap (λ (k : ℕ). k * f) e, ap (λ (k : ℕ). M * k * t) g))
 
 pub small_size : (x : Float) (n power places v : ℕ) → Splits x (n * 2 ^ power) → places + power ≡ 1074
     → v ≡ n * 5 ^ places → IsSize x v places

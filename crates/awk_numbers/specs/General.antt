@@ -1,6 +1,6 @@
 -- The text of a double by the conversion specification `%.Ng`: POSIX.1-2017, XBD 5. Of N significant digits (1 where N
--- is 0), as `%e` has it where its exponent would be less than -4 or N or more, and else as `%f` has it; zeros at the end
--- of what stands behind the point are left out, and the point where nothing stands behind it.
+-- is 0), as `%e` has it where its exponent would be less than -4 or N or more, and else as `%f` has it; zeros at the
+-- end of what stands behind the point are left out, and the point where nothing stands behind it.
 use Rattle.std.specs.Prelude.{ℕ, ◌+◌, ◌-◌, ◌==◌, ◌&&◌, Bool, nat_le, nat_lt, List, [], ◌∷◌, ◌++◌, length, if◌then◌else◌}
 use Rattle.std.specs.Float.{Float, is_sign_negative}
 use Rattle.awk_numbers.specs.Decimal.{fixed, padded, pointed}

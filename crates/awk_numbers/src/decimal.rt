@@ -218,8 +218,8 @@ pub(crate) fn raised_text(alloc: Global, digits: &[u8], power: usize) -> Result<
     Ok(text)
 }
 
-/// The text of so many digits of the number, to the nearest, a tie to the even digit: one more where it is rounded up to
-/// a power of ten.
+/// The text of so many digits of the number, to the nearest, a tie to the even digit: one more where it is rounded up
+/// to a power of ten.
 pub(crate) fn significant_text(
     alloc: Global,
     digits: &[u8],

@@ -1,4 +1,5 @@
-use Rattle.std.proofs.Common.{◌≡◌, ℕ, ◌+◌, ◌*◌, ◌/◌, ◌%◌, ◌^◌, ◌≤◌, [], ◌∷◌, ◌++◌, length, inr, ap, sym, subst, arith, ◌∙◌}
+use Rattle.std.proofs.Common.{◌≡◌, ℕ, ◌+◌, ◌*◌, ◌/◌, ◌%◌, ◌^◌, ◌≤◌, [], ◌∷◌, ◌++◌, length, inr}
+use Rattle.std.proofs.Common.{ap, sym, subst, arith, ◌∙◌}
 use Rattle.awk_numbers.specs.Figures.{below, AllFigures}
 use Rattle.awk_numbers.proofs.Figures.{push_step, push_figures, longer, front_step}
 use Rattle.awk_numbers.proofs.decimal.push_carry.Goals as goal

@@ -1,4 +1,5 @@
-use Rattle.std.proofs.Common.{◌≡◌, ℕ, suc, List, ◌+◌, ◌*◌, ◌^◌, ◌≤◌, ◌⊎◌, ◌++◌, length, take, drop, ap, subst, arith, ◌∙◌}
+use Rattle.std.proofs.Common.{◌≡◌, ℕ, suc, List, ◌+◌, ◌*◌, ◌^◌, ◌≤◌, ◌⊎◌, ◌++◌, length, take, drop}
+use Rattle.std.proofs.Common.{ap, subst, arith, ◌∙◌}
 use Rattle.awk_numbers.specs.Figures.{below}
 use Rattle.awk_numbers.proofs.Figures.{scaled, put_back}
 use Rattle.awk_numbers.proofs.decimal.scale.Goals as goal
@@ -13,7 +14,8 @@ returns-clause-value c = λ n are. (
     let same : length mid ≡ length old = c.scale_digits-carry.auto.digits ∙ ap length e in
     let back : take c.args.digits.now.len (mid ++ drop (length mid) old) ≡ mid =
     put_back c.args.digits.now.len mid old same (omega (arith, c.deref_mut.ensures.len, ap length e)) in
-    let product : below mid (length old) + carry * 10 ^ length old ≡ below old (length old) * c.args.factor + c.args.add =
+    let product : below mid (length old) + carry * 10 ^ length old
+    ≡ below old (length old) * c.args.factor + c.args.add =
     subst (λ (xs : List ℕ). below mid (length xs) + carry * 10 ^ length xs
     ≡ below xs (length xs) * c.args.factor + c.args.add) e c.scale_digits-carry.ensures.value in
     let more : below new (length new) ≡ below mid (length mid) + carry * 10 ^ length mid =

@@ -1,7 +1,8 @@
 use Rattle.std.proofs.Common.{◌≡◌, ℕ, ◌+◌, ◌*◌, ◌/◌, ◌%◌, ◌^◌, ◌<◌, length, get_or, ap, sym, refl, arith, ◌∙◌, rules}
 use lib.Seq.{get_or-set_other}
 use Rattle.awk_numbers.specs.Figures.{below}
-use Rattle.awk_numbers.proofs.Figures.{below-zero, below-suc, below-set, ten-suc, scale_step, product_small, set_figures}
+use Rattle.awk_numbers.proofs.Figures.{below-zero, below-suc, below-set, ten-suc, scale_step, product_small}
+use Rattle.awk_numbers.proofs.Figures.{set_figures}
 use Rattle.awk_numbers.proofs.decimal.scale_digits.Goals as goal
 
 pub loop-i-init : goal.loop-i-init
