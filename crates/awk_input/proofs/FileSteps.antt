@@ -33,7 +33,8 @@ use Rattle.awk_streams.specs.declared.getline.NextRecord.{NextRecord}
 use Rattle.awk_streams.specs.declared.halt.Halt.{Halt}
 use Rattle.awk_streams.specs.Chains.{Leads, Meets}
 use Rattle.awk_streams.specs.Tables.{Table, Entry, entries_without, find_input, open_of, with_input}
-use Rattle.awk_streams.specs.Tasks.{Answered, Refused, Opening, IsRead, IsSame, Owns, IsTable, beside, goes_on, input_at}
+use Rattle.awk_streams.specs.Tasks.{Answered, Refused, Opening, IsRead, IsSame, Owns, IsTable, beside, goes_on}
+use Rattle.awk_streams.specs.Tasks.{input_at}
 use Rattle.awk_streams.specs.Tasks.{number_opened}
 use Rattle.awk_streams.proofs.Asking.{fits_here, number_at}
 use Rattle.awk_streams.proofs.Chain.{Laws, asked, at_once, changes, done as finished, turned, unanswered}

@@ -285,7 +285,8 @@ anywhere ghosts g mid new w (halt.Log place) first from k l s c d here x y = y
 
 module _ {W : Type 0} {ghosts : Ghosts W} {g : Given} {p : Piece} {rest : List Piece → List Piece} {old new : Whole}
     {w w' : W} where
-  pub done_in : {A : Type 0} {to : A → List Piece → List Piece} {x : A} → LeadsWhole ghosts g p old w (λ k. to x k) new w'
+  pub done_in : {A : Type 0} {to : A → List Piece → List Piece} {x : A} → LeadsWhole ghosts g p old w (λ k. to x k)
+      new w'
       → MeetsIn ghosts g p to rest old w (Ok x) new w'
   done_in h = record { plays = λ first k hid c a. h.plays first k hid c a }
 

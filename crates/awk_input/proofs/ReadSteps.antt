@@ -71,8 +71,10 @@ module _ {W : Type 0} {ghosts : Ghosts W} (g : Given) (place : Place) (r : p.Ref
     (name target : Value) (key : Key)
     (is : (place : Place) (k : List Piece) → fetch_file place (text_of name) k ≡ Do (fetching place key) ∷ k)
     (old new : Whole) (w w' : W) where
-  pub file_read : (answer : Result Value Halt) → MeetsWhole ghosts g (Do (fetching place key)) give old w answer new w' →
-      MeetsWhole ghosts g (At (Value_of (p.getline_file place r x)) (name ∷ target ∷ [])) (read_of place r x name target)
+  pub file_read : (answer : Result Value Halt) → MeetsWhole ghosts g (Do (fetching place key)) give old w answer new
+      w' →
+      MeetsWhole ghosts g (At (Value_of (p.getline_file place r x)) (name ∷ target ∷ [])) (read_of place r x name
+      target)
       old w answer new w'
   file_read (Ok y) task = done (part y (file_first g place r target name (text_of name) old w refl x key is) task refl)
   file_read (Err h) task = stop h (λ k. refl) (file_first g place r target name (text_of name) old w refl x key is) task
@@ -84,7 +86,8 @@ module _ {W : Type 0} {ghosts : Ghosts W} (g : Given) (place : Place) (r : p.Ref
     (old new : Whole) (w w' : W) where
   pub command_read : (answer : Result Value Halt)
       → MeetsWhole ghosts g (Do (fetching place (Named InputCommand (text_of name)))) give old w answer new w' →
-      MeetsWhole ghosts g (At (Pipes_of (p.piped place r xs)) (target ∷ name ∷ [])) (piped_of place r xs name target) old
+      MeetsWhole ghosts g (At (Pipes_of (p.piped place r xs)) (target ∷ name ∷ [])) (piped_of place r xs name
+      target) old
       w answer new w'
   command_read (Ok y) task = done (part y (pipe_first g place r target name (text_of name) old w refl xs) task refl)
   command_read (Err h) task = stop h (λ k. refl) (pipe_first g place r target name (text_of name) old w refl xs) task

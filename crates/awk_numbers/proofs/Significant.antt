@@ -83,7 +83,11 @@ module _ (x : Float) (digits : List ℕ) (n s : ℕ) (are : AreFigures digits n)
         (below-lt digits (length digits) are.each) in
         let most : closest (n * 10 ^ count) (10 ^ length digits) ≤ closest (10 ^ count) 1 =
         closest_mono (n * 10 ^ count) (10 ^ length digits) (10 ^ count) 1 (ten_pos (length digits)) (omega arith)
-        (omega (arith, Rattle.std.proofs.Common.mul-le-mul_right (10 ^ count) (below_is n (10 ^ length digits) small))) in
+        (omega (
+          arith,
+          Rattle.std.proofs.Common.mul-le-mul_right (10 ^ count) (below_is n (10 ^ length digits)
+              small),
+        )) in
         subst (λ (k : ℕ). k ≤ 10 ^ count) (rounded_at count h) (subst (λ (k : ℕ). closest (n * 10 ^ count)
         (10 ^ length digits) ≤ k) (closest_whole (10 ^ count)) most)
       where

@@ -62,7 +62,7 @@ moved_on numbers lead before script _ _ _ begins base parts (begun rest) =
     record {
       moved = [];
       read = subst (λ w. ReadsTo numbers w (before ++ []) rest) (sym (append-nil lead))
-      (subst (λ ts. ReadsTo numbers lead ts rest)
+          (subst (λ ts. ReadsTo numbers lead ts rest)
           (sym (append-nil before)) (subst (λ w. ReadsTo numbers lead before w) parts base));
       same = refl;
     }

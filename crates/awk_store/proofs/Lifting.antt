@@ -80,7 +80,8 @@ module _ {W : Type 0} (ghosts : Ghosts W) (g : Given) (k : Kept) (row : Row) (ke
 
   lift_result : {A : Type 0} (result : Result A Halt) (on : A → List Piece → List Piece) (first w : W)
       (from to : List Piece) (s : State) (c : Course) (t : Table) →
-      MatchResult result (λ x. Comes ghosts (beside (apart g k row)) IsTable (λ y. k.used) g first from s c (on x to) t w)
+      MatchResult result (λ x. Comes ghosts (beside (apart g k row)) IsTable (λ y. k.used) g first from s c (on x
+      to) t w)
       (λ h. Halted ghosts (beside (apart g k row)) IsTable (λ y. k.used) g first from s c to t w h) →
       MatchResult result (λ x. Comes ghosts (base g) (Agreeing g) used g first from s c (on x to) (k, t) w)
       (λ h. Halted ghosts (base g) (Agreeing g) used g first from s c to (k, t) w h)

@@ -23,7 +23,8 @@ use Rattle.awk_machine.specs.Streams.{want, with_event, seen}
 use Rattle.awk_streams.specs.declared.halt.Halt.{Halt}
 use Rattle.awk_streams.specs.Chains.{Follows, Leads}
 use Rattle.awk_streams.specs.Tables.{Table, open_of}
-use Rattle.awk_streams.specs.Tasks.{Answered, Refused, IsTable, IsNumber, beside, MeetsTable, is_failed, looked, value_given}
+use Rattle.awk_streams.specs.Tasks.{Answered, Refused, IsTable, IsNumber, beside, MeetsTable, is_failed, looked}
+use Rattle.awk_streams.specs.Tasks.{value_given}
 use Rattle.awk_streams.proofs.Chain.{Laws, at_once, asked, unanswered}
 use Rattle.awk_streams.proofs.Numbers.{fits_alone}
 

@@ -38,7 +38,8 @@ join (seeks a e i p) q = seeks a e i (join p q)
 
 -- what of a world's law answers need
 pub record Laws {W : Type 0} (ghosts : Ghosts W) : Type 0 where
-  pub joined : (u v w : W) (xs ys : List Call) → Follows ghosts u xs v → Follows ghosts v ys w → Follows ghosts u (xs ++ ys) w
+  pub joined : (u v w : W) (xs ys : List Call) → Follows ghosts u xs v → Follows ghosts v ys w → Follows ghosts u
+      (xs ++ ys) w
   pub later : (u v w : W) (xs ys : List Call) (ask : Ask) → Follows ghosts u xs v → Ended ghosts v ys ask w
       → Ended ghosts u (xs ++ ys) ask w
   pub opens : (v w : W) (cs : List Call) → ghosts.follows v cs w

@@ -264,7 +264,8 @@ module _ {W : Type 0} {ghosts : Ghosts W} (laws : Laws ghosts) (g : Given) (s : 
       (r : Reply) (w w' : W) → first_of text table.entries ≡ Some (c, n) →
       new.entries ≡ entries_without c text table.entries → new.input ≡ table.input
       → Answered ghosts (record { place = place; given = false; request = request.Shut n }) w r w' →
-      Leads ghosts (beside s) IsTable (λ t. s.course.used) g p old first (λ k. Do (Close place text so_far) ∷ k) table w →
+      Leads ghosts (beside s) IsTable (λ t. s.course.used) g p old first (λ k. Do (Close place text so_far) ∷ k)
+      table w →
       Leads ghosts (beside s) IsTable (λ t. s.course.used) g p old first
       (λ k. Do (Close place text (Some (first_answer so_far (shut_answer r)))) ∷ k) new w'
   close_one so_far table new c n r w w' h es same x lead =
@@ -285,7 +286,8 @@ module _ {W : Type 0} {ghosts : Ghosts W} (laws : Laws ghosts) (g : Given) (s : 
       (so_far : Option Value) (table : Table) (c : Class) (n : ℕ) (h : Halt) (w w' : W) → first_of text table.entries
       ≡ Some (c, n) →
       Refused ghosts (record { place = place; given = false; request = request.Shut n }) w h w' →
-      Leads ghosts (beside s) IsTable (λ t. s.course.used) g p old first (λ k. Do (Close place text so_far) ∷ k) table w →
+      Leads ghosts (beside s) IsTable (λ t. s.course.used) g p old first (λ k. Do (Close place text so_far) ∷ k)
+      table w →
       Meets ghosts (beside s) IsTable (λ t. s.course.used) g p on old first (Err h) table w'
   close_refused so_far table c n h w w' e x lead =
       rw x.is (unanswered {q = λ k. Do (Close place text so_far)} {to = λ k. k} {then_ =
@@ -303,7 +305,8 @@ module _ {W : Type 0} {ghosts : Ghosts W} (laws : Laws ghosts) (g : Given) (s : 
   -- none is left
   pub close_done : {p : Piece} {old : Table} {first : W} (so_far : Option Value) (answer : Value) (table : Table)
       (w : W) → answer ≡ answer_or so_far → first_of text table.entries ≡ None →
-      Leads ghosts (beside s) IsTable (λ t. s.course.used) g p old first (λ k. Do (Close place text so_far) ∷ k) table w →
+      Leads ghosts (beside s) IsTable (λ t. s.course.used) g p old first (λ k. Do (Close place text so_far) ∷ k)
+      table w →
       Meets ghosts (beside s) IsTable (λ t. s.course.used) g p give old first (Ok answer) table w
   close_done so_far answer table w is none lead =
       rw is (done (changes {then_ = λ k. give (answer_or so_far) k} refl lead (λ k taken co a. (

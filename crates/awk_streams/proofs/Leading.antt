@@ -22,7 +22,8 @@ use Rattle.awk_machine.specs.Streams.{seen}
 use Rattle.awk_streams.specs.declared.halt.Halt.{Halt}
 use Rattle.awk_streams.specs.Chains.{Leads, Meets}
 use Rattle.awk_streams.specs.Tables.{Table, Entry, open_of}
-use Rattle.awk_streams.specs.Tasks.{Refused, Opening, Opens, IsTable, IsSame, Owns, beside, MeetsTable, fetched, number_opened}
+use Rattle.awk_streams.specs.Tasks.{Refused, Opening, Opens, IsTable, IsSame, Owns, beside, MeetsTable, fetched}
+use Rattle.awk_streams.specs.Tasks.{number_opened}
 use Rattle.awk_streams.specs.Tasks.{entries_opened}
 use Rattle.awk_streams.proofs.Asking.{fits_here}
 use Rattle.awk_streams.proofs.Chain.{Laws, at_once, asked, done, known, settled, turned, unanswered}

@@ -27,7 +27,8 @@ use Rattle.awk_streams.specs.Chains.{Leads, Meets}
 use Rattle.awk_streams.specs.Readings.{FailsFirst, FailsOpen, FirstIs, GoesOn, HasCome, IsReading, Received, Waits}
 use Rattle.awk_streams.specs.Readings.{further, gives_read, key_of, read_further}
 use Rattle.awk_streams.specs.Tables.{Table}
-use Rattle.awk_streams.specs.Tasks.{Answered, Refused, IsTable, IsNumber, IsReadAt, IsSame, Owns, beside, MeetsTable, fetched}
+use Rattle.awk_streams.specs.Tasks.{Answered, Refused, IsTable, IsNumber, IsReadAt, IsSame, Owns, beside, MeetsTable}
+use Rattle.awk_streams.specs.Tasks.{fetched}
 use Rattle.awk_streams.specs.Tasks.{goes_on, input_at}
 use Rattle.awk_streams.proofs.Asking.{fits_here, number_at}
 use Rattle.awk_streams.proofs.Chain.{Laws, asked, at_once, changes, closed, done as finished, lacking, settled, turned}
@@ -319,7 +320,8 @@ minus_nothing n = omega arith
 
 pub forgets : {W : Type 0} (ghosts : Ghosts W) (g : Given) (s : State) (old new : Table) (w : W)
     → GoesOn (Standard 0) old → new.entries ≡ old.entries → new.input ≡ record { unread = []; ended = false } →
-    Meets ghosts (beside s) IsTable (λ t. s.course.used) g (Do (machine.Forget (Standard 0))) (goes_on {A = Unit {0}}) old
+    Meets ghosts (beside s) IsTable (λ t. s.course.used) g (Do (machine.Forget (Standard 0))) (goes_on {A = Unit
+    {0}}) old
     w (Ok (tt {0})) new w
 forgets ghosts g s old new w open_ es is = finished (changes refl (at_once _ old w) (λ k t c a. (
   λ other. if same_key (Standard 0) other then length (came (Standard 0) c.events) else t other,

@@ -65,7 +65,8 @@ module _ {W : Type 0} (ghosts : Ghosts W) (g : Given) (s : State) (place : Place
     ))
 
     pub reads_long : head rs before.unread before.ended ≡ too_long
-        → Leads ghosts (beside s) IsTable (λ t. s.course.used) g p old first (λ k. ends (Faulted TextTooLong place)) mid w
+        → Leads ghosts (beside s) IsTable (λ t. s.course.used) g p old first (λ k. ends (Faulted TextTooLong place))
+        mid w
     reads_long h = changes refl lead
         (λ k t c a. (
           t,

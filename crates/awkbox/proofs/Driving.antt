@@ -90,7 +90,8 @@ module _ {W L : Type 0} (follows : W → List Call → W → Type 0) (has_stoppe
 
       at_last : (place : Place) (want : Want) → Stops stops contents (fresh book world log) (calls es)
           (ask_of want (open_streams es)) m
-          → LogStands stops contents book world log es (Faulted NoLog place) (Some want) (unwrap_or m.stop Whole) m.world
+          → LogStands stops contents book world log es (Faulted NoLog place) (Some want) (unwrap_or m.stop Whole)
+          m.world
           m.log
       at_last place want s = elim s [
         | inl a ↦ cc

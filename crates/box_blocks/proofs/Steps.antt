@@ -539,7 +539,8 @@ module _ {W : Type 0} (follows : W → List Call → W → Type 0) (has_stopped 
         })
 
     module _ (first : W) (calls : List Call) (old new : Blocks W)
-        (early : Follows follows has_stopped (fresh first) calls old) (late : Follows follows has_stopped old [] new) where
+        (early : Follows follows has_stopped (fresh first) calls old) (late : Follows follows has_stopped old []
+        new) where
       all_goes : Goes follows (fresh first) [] (calls ++ []) new
       all_goes = (Follows-append follows has_stopped append (fresh first) old new calls [] early late).goes [] refl
 

@@ -17,7 +17,8 @@ returns-in_err-split_for_assignment g c =
       does =
           record {
             plays = λ m is. stop _ (λ k. refl) (at_once _ _ _)
-                (acted (c.split_for_assignment.ensures m c.args.run.now.streams (value (view (names_in m) c.args.e.now))))
+                (acted (c.split_for_assignment.ensures m c.args.run.now.streams (value (view (names_in m)
+                c.args.e.now))))
                 c.in_err-split_for_assignment.was;
             owns = c.requires.owns;
           };
@@ -33,7 +34,8 @@ returns g c =
           record {
             plays = λ m is. passes
                 (part _ (at_once _ _ _)
-                (acted (c.split_for_assignment.ensures m c.args.run.now.streams (value (view (names_in m) c.args.e.now))))
+                (acted (c.split_for_assignment.ensures m c.args.run.now.streams (value (view (names_in m)
+                c.args.e.now))))
                 c.in_ok-split_for_assignment.was) (h.does.plays m is);
             owns = h.does.owns;
           };
