@@ -11,7 +11,7 @@ use Rattle.awkbox.specs.Accepted.{IsScriptRefused, ReadsScript}
 use Rattle.awkbox.specs.Scripts as spec
 use Rattle.awkbox.specs.Scripts.{Spells}
 
-pub read : (text : List ℕ) (tokens : List Token) (r : Result Script SyntaxError) → Reads text tokens
+pub read : (text : List ℕ) (tokens : List Token) (r : Result Script SyntaxError) → Reads Whole text tokens
     → IfOk r (λ s. IsSpelled tokens s) → IfOk r (λ s. ReadsScript text s)
 read text tokens (Ok s) reads h = record { tokens = tokens; reads = reads; spelled = h }
 read text tokens (Err e) reads h = tt
@@ -28,7 +28,7 @@ pub refused : (text : List ℕ) (tokens : List Token) (r : Result Script SyntaxE
 refused text tokens (Ok s) reads h = tt
 refused text tokens (Err e) reads h = inr (tokens, reads, h)
 
-pub told : (text : List ℕ) (tokens : List Token) (r : Result Script SyntaxError) → Reads text tokens
+pub told : (text : List ℕ) (tokens : List Token) (r : Result Script SyntaxError) → Reads Whole text tokens
     → IfErr r (λ e. IsRefused tokens e) → IfErr r (λ e. spec.IsScriptRefused text e)
 told text tokens (Ok s) reads h = tt
 told text tokens (Err e) reads h = λ _. inr (tokens, reads, h)
