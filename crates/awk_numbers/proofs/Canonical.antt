@@ -28,11 +28,11 @@ use Rattle.awk_numbers.proofs.Wholes.{counted}
 use Rattle.awk_numbers.proofs.Settling.{double_value, equal_size}
 
 -- ---- results are numbers
-abbrev number_in : Result Number NumberFault → Number
+abbrev pub number_in : Result Number NumberFault → Number
 number_in (Ok x) = x
 number_in (Err e) = Whole (pos 0)
 
-signed_size : (s : Bool) (q : ℕ) → unsigned_abs (signed s q) ≡ q
+pub signed_size : (s : Bool) (q : ℕ) → unsigned_abs (signed s q) ≡ q
 signed_size false q = refl
 signed_size true zero = refl
 signed_size true (suc q) = refl
@@ -40,7 +40,7 @@ signed_size true (suc q) = refl
 abbrev chosen : Bool → Bool → ℕ → Float → Result Number NumberFault
 chosen counted s q x = if counted then Ok (Whole (signed s q)) else Ok (Real x)
 
-settled_number : (x : Float) (z : Number) → T (fits binary64 x) → settled x ≡ Ok z → IsNumber profile.Double z
+pub settled_number : (x : Float) (z : Number) → T (fits binary64 x) → settled x ≡ Ok z → IsNumber profile.Double z
 settled_number nan z f e = absurd (true≢false (sym (ap is_ok e)))
 settled_number (inf s) z f e = absurd (true≢false (sym (ap is_ok e)))
 settled_number (fin s m p) z f e = go (is_counted (m * up p) (down p)) refl e
@@ -57,7 +57,7 @@ in_range : (w : ℤ) → is_in_range w ≡ true → unsigned_abs w ≤ 2 ^ 63
 in_range (pos n) e = omega (arith, ltb-true n (2 ^ 63) e)
 in_range (negsuc n) e = omega (arith, ltb-true n (2 ^ 63) e)
 
-ranged_number : (w : ℤ) (z : Number) → ranged w ≡ Ok z → IsNumber profile.Whole z
+pub ranged_number : (w : ℤ) (z : Number) → ranged w ≡ Ok z → IsNumber profile.Whole z
 ranged_number w z e = go (is_in_range w) (in_range w) e
   where
     go : (b : Bool) → (b ≡ true → unsigned_abs w ≤ 2 ^ 63) → (if b then Ok (Whole w) else Err OutOfRange) ≡ Ok z
@@ -88,7 +88,8 @@ closed_mul profile.Whole (Whole m) (Real y) z p q e = absurd q
 closed_mul profile.Whole (Real x) y z p q e = absurd p
 
 -- what stands behind a test of the divisor
-behind : (numbers : Numbers) (b : Bool) (r : Result Number NumberFault) (z : Number) → (r ≡ Ok z → IsNumber numbers z)
+pub behind : (numbers : Numbers) (b : Bool) (r : Result Number NumberFault) (z : Number)
+    → (r ≡ Ok z → IsNumber numbers z)
     → (if b then Err ZeroDivisor else r) ≡ Ok z → IsNumber numbers z
 behind numbers true r z f h = absurd (true≢false (sym (ap is_ok h)))
 behind numbers false r z f h = f h

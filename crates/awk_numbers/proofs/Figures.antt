@@ -5,12 +5,11 @@ use Rattle.std.proofs.Common.{length, get_or, set, drop, reverse, refl, sym, ap,
 use Rattle.std.proofs.Common.{add-one, mul-le-mul_right, div-one}
 use Rattle.std.specs.Int.Digits.{digits_of}
 use Rattle.std.proofs.lemmas.Int.Digits.{digits_of_step}
-use native.Mathlib.Nat.{pow-suc, mul-le-mul, div-div-eq-div-mul}
-use lib.Seq.{get_or-set_same, get_or-set_other, take_all}
-use lib.ListN.{drop_of_length-le}
-use Rattle.std.proofs.Common.{take}
-use Rattle.std.proofs.lemmas.List.{append-nil}
+use native.Mathlib.Nat.{pow-suc, lt_of_le_of_lt, mul-le-mul, mul-le-mul_left, div-div-eq-div-mul}
+use lib.Seq.{get_or-set_same, get_or-set_other}
+use Rattle.std.proofs.lemmas.List.{length-drop}
 use lib.Arith.{mod-mul}
+use Rattle.std.proofs.Math.Nat.{pow-le-pow_right}
 use mathlib.Core.List.{reverse-cons}
 use Prim.Native.Nat.compare
 use Prim.Native.Nat.{compare, Ordering}
@@ -132,7 +131,7 @@ pub renamed : (xs : List ℕ) (m n : ℕ) → m ≡ n → AreFigures xs m → Ar
 renamed xs m n e are = subst (AreFigures xs) e are
 
 -- ---- the last digits and those before them
-below_cons : (d : ℕ) (ds : List ℕ) (i : ℕ) → below (d ∷ ds) (suc i) ≡ d + below ds i * 10
+pub below_cons : (d : ℕ) (ds : List ℕ) (i : ℕ) → below (d ∷ ds) (suc i) ≡ d + below ds i * 10
 unfolding below
 below_cons d ds zero = omega arith
 below_cons d ds (suc i) =
@@ -314,9 +313,47 @@ module _ (xs : List ℕ) (p : ℕ) (figures : AllFigures xs) (n : ℕ) (are : Ar
       other : (d : ℕ) → (d % 2 ≡ 1 → ⊥) → d % 2 ≡ 0
       other d o = omega (arith, o)
 
--- ---- a slice of a whole vector that was written
-pub put_back : (k : ℕ) (new old : List ℕ) → length new ≡ length old → length old ≤ k
-    → take k (new ++ drop (length new) old) ≡ new
-put_back k new old e h =
-    ap (λ (t : List ℕ). take k (new ++ t)) (drop_of_length-le old (omega (arith, e)))
-    ∙ ap (take k) (append-nil new) ∙ take_all k new (omega (arith, e, h))
+-- ---- in a vector of 768 digits
+pub slice_product : (old mid seen : List ℕ) (f a carry : ℕ) → seen ≡ old → length mid ≡ length seen
+    → below mid (length seen) + carry * 10 ^ length seen ≡ below seen (length seen) * f + a
+    → below mid (length mid) + carry * 10 ^ length mid ≡ below old (length old) * f + a
+slice_product old mid seen f a carry e same h =
+    ap (λ (l : ℕ). below mid l + carry * 10 ^ l) same ∙ h
+    ∙ ap (λ (xs : List ℕ). below xs (length xs) * f + a) e
+
+either : (l k : ℕ) → (l < k) ⊎ (k ≤ l)
+either l k = grind arith
+
+pub within : (l k : ℕ) → 10 ^ l < 10 ^ k → l < k
+within l k h = go (either l k)
+  where
+    go : (l < k) ⊎ (k ≤ l) → l < k
+    go (inl e) = e
+    go (inr e) =
+        let most : 10 ^ k ≤ 10 ^ l = pow-le-pow_right {n = 10} (omega arith) {i = k} {j = l} e in
+        absurd (omega (arith, h, most))
+
+-- there is room for a digit more
+pub has_room : (xs : List ℕ) (rest all' : ℕ) → below xs (length xs) + rest * 10 ^ length xs ≡ all' → all' < 10 ^ 768
+    → 0 < rest → length xs < 768
+has_room xs rest all' e h l =
+    let most = front_step (below xs (length xs)) rest (10 ^ length xs) all' e l in
+    within (length xs) 768 (lt_of_le_of_lt most h)
+
+pub less_power : (f i t : ℕ) → 0 < f → i ≤ t → f ^ i ≤ f ^ t
+less_power f i t h l = pow-le-pow_right {n = f} h {i = i} {j = t} l
+
+-- a factor more of those that there is room for
+pub next_room : (b f i t : ℕ) → 0 < f → i < t → b * f ^ t < 10 ^ 768 → b * f ^ i * f + 0 < 10 ^ 768
+next_room b f i t p l h =
+    let most : b * f ^ (i + 1) ≤ b * f ^ t = mul-le-mul_left b (less_power f (i + 1) t p (omega arith)) in
+    omega (arith, most, h, power_more b f i)
+
+-- what is left before the last digits, and what is added to it
+pub kept_room : (xs ks : List ℕ) (c added : ℕ) → AllFigures xs → ks ≡ drop c xs → length xs ≤ 768 → 0 < c → added ≤ 1
+    → below ks (length ks) * 1 + added < 10 ^ 768
+kept_room xs ks c added figures e h l few =
+    let own : AllFigures ks = subst AllFigures (sym e) (drop_figures xs c figures) in
+    let less : length ks ≤ 767 = omega (arith, ap length e, length-drop c xs, h, l) in
+    let most : 10 ^ length ks ≤ 10 ^ 767 = pow-le-pow_right {n = 10} (omega arith) {i = length ks} {j = 767} less in
+    omega (arith, most, below-lt ks (length ks) own, few)

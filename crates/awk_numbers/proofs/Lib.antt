@@ -12,3 +12,9 @@ pub mod Figures
 pub mod Sizes
 pub mod Significant
 pub mod Styles
+pub mod Integral
+pub mod Room
+pub mod SixDigits
+pub mod WholeTexts
+pub mod WholePowers
+pub mod PowerLaws

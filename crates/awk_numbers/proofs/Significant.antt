@@ -49,7 +49,7 @@ units_at (fin t m e) n s h l =
     rearranged : (M p w n D : ℕ) → M * p ≡ n * D → M * (p * w) ≡ n * w * D
     rearranged M p w n D e = omega (arith, ap (λ (k : ℕ). k * w) e)
 
-length_of : (n : ℕ) → length (text n) ≡ length (digits_of 10 n)
+pub length_of : (n : ℕ) → length (text n) ≡ length (digits_of 10 n)
 length_of n = length-map (digits_of 10 n) (λ d. 48 + d)
 
 longer : (n z : ℕ) → 0 < n → length (digits_of 10 (n * 10 ^ z)) ≡ length (digits_of 10 n) + z

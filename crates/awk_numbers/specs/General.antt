@@ -1,9 +1,11 @@
 -- The text of a double by the conversion specification `%.Ng`: POSIX.1-2017, XBD 5. Of N significant digits (1 where N
 -- is 0), as `%e` has it where its exponent would be less than -4 or N or more, and else as `%f` has it; zeros at the
 -- end of what stands behind the point are left out, and the point where nothing stands behind it.
-use Rattle.std.specs.Prelude.{ℕ, ◌+◌, ◌-◌, ◌==◌, ◌&&◌, Bool, nat_le, nat_lt, List, [], ◌∷◌, ◌++◌, length, if◌then◌else◌}
+use Rattle.std.specs.Prelude.{ℕ, ◌≡◌, ◌<◌, ◌≤◌, ◌^◌, ◌+◌, ◌-◌, ◌==◌, ◌&&◌, Bool, nat_le, nat_lt}
+use Rattle.std.specs.Prelude.{List, [], ◌∷◌, ◌++◌, length, if◌then◌else◌}
 use Rattle.std.specs.Float.{Float, is_sign_negative}
 use Rattle.awk_numbers.specs.Decimal.{fixed, padded, pointed}
+use Rattle.awk_numbers.specs.Digits.{rounded}
 use Rattle.awk_numbers.specs.Exponents.{exponent_text, mantissa, place}
 
 -- without such bytes at the end
@@ -34,6 +36,12 @@ general letter x count =
 
 abbrev pub at_least_one : ℕ → ℕ
 at_least_one n = if n == 0 then 1 else n
+
+-- q is the size as six significant digits, the first of which stands at k, counted from the place of 10 ^ -1074; where
+-- they are written without an exponent it is also the size with so many places behind the point
+abbrev pub AreSix : Float → ℕ → ℕ → Type 0
+AreSix x q k = (q ≡ mantissa x 6) × (k ≡ place x 6) × (q < 10 ^ 6) × (k ≤ 2000)
+    × (1070 ≤ k → k < 1080 → rounded x (1079 - k) ≡ q)
 
 -- with the sign, which is the number's
 abbrev pub general_text : ℕ → Float → ℕ → List ℕ

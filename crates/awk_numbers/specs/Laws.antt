@@ -1,5 +1,5 @@
 -- The laws of the two profiles.
-use Rattle.std.specs.Prelude.{◌≡◌, ◌^◌, ◌≤◌, ℤ, pos, int_rem, unsigned_abs, Result, Ok}
+use Rattle.std.specs.Prelude.{ℕ, ◌≡◌, ◌^◌, ◌≤◌, ℤ, pos, int_rem, unsigned_abs, Result, Ok}
 use Rattle.std.specs.declared.cmp.Ordering.TheVariants.{Equal}
 use Rattle.awk_numbers.specs.declared.number.Number.{Number}
 use Rattle.awk_numbers.specs.declared.number.Number.TheVariants.{Whole}
@@ -8,6 +8,7 @@ use Rattle.awk_numbers.specs.declared.number.Numbers.TheVariants as profile
 use Rattle.awk_numbers.specs.declared.number.NumberFault.{NumberFault}
 use Rattle.awk_numbers.specs.Numbers.{IsNumber}
 use Rattle.awk_numbers.specs.Operators.{order, neg, div}
+use Rattle.awk_numbers.specs.Powers.{pow}
 
 abbrev pub IsExact : ℤ → Type 0
 IsExact z = unsigned_abs z ≤ 2 ^ 53
@@ -21,6 +22,11 @@ Restricts operator = (m n z : ℤ) → IsExact m → IsExact n → IsExact z
 abbrev pub DivRestricts : Type 0
 DivRestricts = (m n z : ℤ) → IsExact m → IsExact n → IsExact z → int_rem m n ≡ pos 0
     → div profile.Whole (Whole m) (Whole n) ≡ Ok (Whole z) → div profile.Double (Whole m) (Whole n) ≡ Ok (Whole z)
+
+abbrev pub PowRestricts : Type 0
+PowRestricts = (m z : ℤ) (n : ℕ) → IsExact m → IsExact (pos n) → IsExact z
+    → pow profile.Whole (Whole m) (Whole (pos n)) ≡ Ok (Whole z)
+    → pow profile.Double (Whole m) (Whole (pos n)) ≡ Ok (Whole z)
 
 abbrev pub NegRestricts : Type 0
 NegRestricts = (n z : ℤ) → IsExact n → IsExact z

@@ -8,3 +8,8 @@ pub mod Decimal
 pub mod Exponents
 pub mod General
 pub mod Functions
+pub mod Texts
+pub mod Formula
+pub mod Powers
+pub mod Shown
+pub mod Random

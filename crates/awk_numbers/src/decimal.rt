@@ -7,7 +7,11 @@ ghost use lib.Ieee.Nearest.{closest};
 ghost use Rattle.awk_numbers.specs.Figures.{below, AllFigures, AreFigures, IsSize};
 
 use crate::fixed::split;
+use arrayvec::ArrayVec;
 use std::alloc::{AllocError, Global};
+
+/// The digits of a number, the last one first: there is room for those of each finite double.
+pub(crate) type Digits = ArrayVec<u8, 768>;
 
 /// Multiplies the number by a factor and adds, within the digits that it has: what is left is carried beyond them.
 fn scale_digits(digits: &mut [u8], factor: u64, add: u64) -> u64
@@ -29,51 +33,53 @@ fn scale_digits(digits: &mut [u8], factor: u64, add: u64) -> u64
 }
 
 /// Puts the digits of what is carried before the number.
-fn push_carry(digits: &mut Vec<u8>, carry: u64) -> Result<(), AllocError>
+fn push_carry(digits: &mut Digits, carry: u64)
     requires figures { AllFigures digits.old.items }
-    ensures value { OnOk result (below digits.new.items (length digits.new.items)
-        ≡ below digits.old.items (length digits.old.items) + carry * 10 ^ length digits.old.items) }
-    ensures figures { OnOk result (AllFigures digits.new.items) }
-    ensures front { OnOk result ((k : ℕ) → length digits.new.items ≡ suc k
+    requires room { below digits.old.items (length digits.old.items) + carry * 10 ^ length digits.old.items < 10 ^ 768 }
+    ensures value { below digits.new.items (length digits.new.items)
+        ≡ below digits.old.items (length digits.old.items) + carry * 10 ^ length digits.old.items }
+    ensures figures { AllFigures digits.new.items }
+    ensures front { (k : ℕ) → length digits.new.items ≡ suc k
         → (length digits.old.items ≡ suc k)
-        ⊎ (10 ^ k ≤ below digits.old.items (length digits.old.items) + carry * 10 ^ length digits.old.items)) }
+        ⊎ (10 ^ k ≤ below digits.old.items (length digits.old.items) + carry * 10 ^ length digits.old.items) }
 {
     let mut rest = carry;
     while rest > 0 {
-        digits.push((rest % 10) as u8)?;
+        digits.push((rest % 10) as u8);
         rest /= 10;
     }
-    Ok(())
 }
 
 /// Multiplies the number by a factor and adds.
-fn scale(digits: &mut Vec<u8>, factor: u64, add: u64) -> Result<(), AllocError>
+fn scale(digits: &mut Digits, factor: u64, add: u64)
     requires figures { AllFigures digits.old.items }
     requires positive { 0 < factor }
     requires factor { factor ≤ 2 ^ 56 }
     requires add { add ≤ 2 ^ 57 }
-    ensures figures { OnOk result (AllFigures digits.new.items) }
-    ensures value { OnOk result ((n : ℕ) → AreFigures digits.old.items n
-        → AreFigures digits.new.items (n * factor + add)) }
+    requires room { below digits.old.items (length digits.old.items) * factor + add < 10 ^ 768 }
+    ensures figures { AllFigures digits.new.items }
+    ensures size { below digits.new.items (length digits.new.items)
+        ≡ below digits.old.items (length digits.old.items) * factor + add }
+    ensures value { (n : ℕ) → AreFigures digits.old.items n → AreFigures digits.new.items (n * factor + add) }
 {
-    let carry = scale_digits(digits, factor, add);
-    push_carry(digits, carry)?;
-    Ok(())
+    let carry = scale_digits(digits.as_mut_slice(), factor, add);
+    push_carry(digits, carry);
 }
 
 /// Multiplies the number by a factor so many times.
-fn scale_by(digits: &mut Vec<u8>, factor: u64, times: u32) -> Result<(), AllocError>
+fn scale_by(digits: &mut Digits, factor: u64, times: u32)
     requires figures { AllFigures digits.old.items }
     requires positive { 0 < factor }
     requires factor { factor ≤ 2 ^ 56 }
-    ensures figures { OnOk result (AllFigures digits.new.items) }
-    ensures value { OnOk result ((n : ℕ) → AreFigures digits.old.items n
-        → AreFigures digits.new.items (n * factor ^ times)) }
+    requires room { below digits.old.items (length digits.old.items) * factor ^ times < 10 ^ 768 }
+    ensures figures { AllFigures digits.new.items }
+    ensures size { below digits.new.items (length digits.new.items)
+        ≡ below digits.old.items (length digits.old.items) * factor ^ times }
+    ensures value { (n : ℕ) → AreFigures digits.old.items n → AreFigures digits.new.items (n * factor ^ times) }
 {
     'times: for _turn in 0..times {
-        scale(digits, factor, 0)?;
+        scale(digits, factor, 0);
     }
-    Ok(())
 }
 
 /// The digit at a place, 0 before the number.
@@ -103,7 +109,7 @@ fn ends_in_zeros(digits: &[u8], count: usize) -> bool
 
 /// What is added to the number where its last digits go: 1 where they are more than half a unit, or half of one and the
 /// digit before them is odd.
-fn rounding(digits: &[u8], count: usize) -> u64
+pub(crate) fn rounding(digits: &[u8], count: usize) -> u64
     requires figures { AllFigures digits.now }
     requires some { 0 < count }
     ensures value { (n : ℕ) → AreFigures digits.now n → closest n (10 ^ count) ≡ n / 10 ^ count + result }
@@ -123,7 +129,7 @@ fn rounding(digits: &[u8], count: usize) -> u64
 }
 
 /// The digits before the last ones.
-fn before_last(digits: &[u8], count: usize) -> &[u8]
+pub(crate) fn before_last(digits: &[u8], count: usize) -> &[u8]
     ensures { result.now ≡ drop count digits.now }
 {
     if count < digits.len() {
@@ -134,42 +140,43 @@ fn before_last(digits: &[u8], count: usize) -> &[u8]
 }
 
 /// The number in units of its last digits, to the nearest, a tie to the even one.
-fn without_last(alloc: Global, digits: &[u8], count: usize) -> Result<Vec<u8>, AllocError>
-    requires figures { AllFigures digits.now }
+pub(crate) fn without_last(digits: &Digits, count: usize) -> Digits
+    requires figures { AllFigures digits.now.items }
     requires some { 0 < count }
-    ensures figures { IfOk result (λ kept. AllFigures kept.items) }
-    ensures value { IfOk result (λ kept. (n : ℕ) → AreFigures digits.now n
-        → AreFigures kept.items (closest n (10 ^ count))) }
+    ensures figures { AllFigures result.items }
+    ensures value { (n : ℕ) → AreFigures digits.now.items n → AreFigures result.items (closest n (10 ^ count)) }
 {
-    let mut kept = Vec::from_slice(alloc, before_last(digits, count))?;
-    scale(&mut kept, 1, rounding(digits, count))?;
-    Ok(kept)
+    let mut kept = Digits::new();
+    let _ = kept.try_extend_from_slice(before_last(digits.as_slice(), count));
+    scale(&mut kept, 1, rounding(digits.as_slice(), count));
+    kept
 }
 
 /// The digits of the size of a finite double, exact, and how many of them stand behind the point.
-pub(crate) fn exact(alloc: Global, x: f64) -> Result<(Vec<u8>, u32), AllocError>
+pub(crate) fn exact(x: f64) -> (Digits, u32)
     requires { T (float_is_finite x) }
-    ensures figures { IfOk result (λ made. AllFigures made.0.items) }
-    ensures value { IfOk result (λ made. (n : ℕ) × AreFigures made.0.items n × IsSize x n made.1) }
-    ensures few { IfOk result (λ made. made.1 ≤ 1074) }
+    ensures figures { AllFigures result.0.items }
+    ensures value { (n : ℕ) × AreFigures result.0.items n × IsSize x n result.1 }
+    ensures few { result.1 ≤ 1074 }
+    ensures most { (n : ℕ) → AreFigures result.0.items n → n < 10 ^ (309 + result.1) }
 {
     let (n, power) = split(x);
-    let mut digits = Vec::new(alloc);
-    scale(&mut digits, 1, n)?;
+    let mut digits = Digits::new();
+    scale(&mut digits, 1, n);
     if power < 1074 {
         let places = 1074 - power;
-        scale_by(&mut digits, 152_587_890_625, places / 16)?;
-        scale_by(&mut digits, 5, places % 16)?;
-        Ok((digits, places))
+        scale_by(&mut digits, 152_587_890_625, places / 16);
+        scale_by(&mut digits, 5, places % 16);
+        (digits, places)
     } else {
-        scale_by(&mut digits, 65_536, (power - 1074) / 16)?;
-        scale_by(&mut digits, 2, (power - 1074) % 16)?;
-        Ok((digits, 0))
+        scale_by(&mut digits, 65_536, (power - 1074) / 16);
+        scale_by(&mut digits, 2, (power - 1074) % 16);
+        (digits, 0)
     }
 }
 
 /// The text of the number, the first digit first: none for 0.
-fn text_of(alloc: Global, digits: &[u8]) -> Result<Vec<u8>, AllocError>
+pub(crate) fn text_of(alloc: Global, digits: &[u8]) -> Result<Vec<u8>, AllocError>
     requires { AllFigures digits.now }
     ensures { IfOk result (λ text. text.items ≡ map (λ d. 48 + d) (reverse digits.now)) }
 {
@@ -183,15 +190,14 @@ fn text_of(alloc: Global, digits: &[u8]) -> Result<Vec<u8>, AllocError>
 }
 
 /// The text of the number in units of its last digits, to the nearest, a tie to the even one.
-pub(crate) fn cut_text(alloc: Global, digits: &[u8], count: usize) -> Result<Vec<u8>, AllocError>
-    requires figures { AllFigures digits.now }
+pub(crate) fn cut_text(alloc: Global, digits: &Digits, count: usize) -> Result<Vec<u8>, AllocError>
+    requires figures { AllFigures digits.now.items }
     requires some { 0 < count }
-    ensures { IfOk result (λ text. (n : ℕ) → AreFigures digits.now n
+    ensures { IfOk result (λ text. (n : ℕ) → AreFigures digits.now.items n
         → text.items ≡ map (λ d. 48 + d) (digits_of 10 (closest n (10 ^ count)))) }
 {
-    let kept = without_last(alloc, digits, count)?;
-    let text = text_of(alloc, &kept)?;
-    Ok(text)
+    let kept = without_last(digits, count);
+    text_of(alloc, kept.as_slice())
 }
 
 /// Adds zeros.
@@ -222,18 +228,16 @@ pub(crate) fn raised_text(alloc: Global, digits: &[u8], power: usize) -> Result<
 /// to a power of ten.
 pub(crate) fn significant_text(
     alloc: Global,
-    digits: &[u8],
+    digits: &Digits,
     count: usize,
 ) -> Result<Vec<u8>, AllocError>
-    requires { AllFigures digits.now }
-    ensures { IfOk result (λ text. (n : ℕ) → AreFigures digits.now n
-        → text.items ≡ map (λ d. 48 + d) (digits_of 10 (closest (n * 10 ^ count) (10 ^ length digits.now)))) }
+    requires { AllFigures digits.now.items }
+    ensures { IfOk result (λ text. (n : ℕ) → AreFigures digits.now.items n
+        → text.items ≡ map (λ d. 48 + d) (digits_of 10 (closest (n * 10 ^ count) (10 ^ length digits.now.items)))) }
 {
     let length = digits.len();
     if count < length {
-        let text = cut_text(alloc, digits, length - count)?;
-        return Ok(text);
+        return cut_text(alloc, digits, length - count);
     }
-    let text = raised_text(alloc, digits, count - length)?;
-    Ok(text)
+    raised_text(alloc, digits.as_slice(), count - length)
 }

@@ -26,7 +26,7 @@ pub(crate) fn scientific(
     ensures digits { IfOk result (λ made. made.0.items ≡ map (λ d. 48 + d) (digits_of 10 (mantissa x count))) }
     ensures place { IfOk result (λ made. made.1 ≡ place x count) }
 {
-    let (digits, places) = exact(alloc, x)?;
+    let (digits, places) = exact(x);
     if digits.is_empty() {
         return Ok((Vec::new(alloc), UNIT));
     }
@@ -78,7 +78,12 @@ fn unsigned(alloc: Global, x: f64, places: u32, letter: u8) -> Result<Vec<u8>, A
 }
 
 /// The text of the size of a double: that of 0 where it is no number.
-fn size_text(alloc: Global, x: f64, places: u32, letter: u8) -> Result<Vec<u8>, AllocError>
+pub(crate) fn size_text(
+    alloc: Global,
+    x: f64,
+    places: u32,
+    letter: u8,
+) -> Result<Vec<u8>, AllocError>
     ensures { IfOk result (λ text. text.items ≡ exponential letter x places) }
 {
     if x.is_finite() {

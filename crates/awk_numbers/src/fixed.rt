@@ -54,7 +54,7 @@ pub fn closest_over(n: u128, shift: u32) -> u128
     }
 }
 
-fn ten_to(places: u32) -> u64
+pub(crate) fn ten_to(places: u32) -> u64
     requires { places ≤ 19 }
     ensures { result ≡ 10 ^ places }
 {
@@ -98,16 +98,23 @@ pub(crate) fn pointed(alloc: Global, digits: &[u8], places: usize) -> Result<Vec
     Ok(text)
 }
 
-/// The digits of a number, none for 0.
+/// The digits of a number, none for 0. They lie in the buffer.
+pub(crate) fn own_digits(buffer: &mut Buffer, number: u128) -> &[u8]
+    ensures { result.now ≡ map (λ d. 48 + d) (digits_of 10 number) }
+{
+    if number == 0 {
+        &[]
+    } else {
+        buffer.format(number).as_bytes()
+    }
+}
+
+/// A copy of the digits of a number, none for 0.
 pub(crate) fn near_digits(alloc: Global, number: u128) -> Result<Vec<u8>, AllocError>
     ensures { IfOk result (λ text. text.items ≡ map (λ d. 48 + d) (digits_of 10 number)) }
 {
-    if number == 0 {
-        return Ok(Vec::new(alloc));
-    }
     let mut buffer = Buffer::new();
-    let own = buffer.format(number).as_bytes();
-    let text = Vec::from_slice(alloc, own)?;
+    let text = Vec::from_slice(alloc, own_digits(&mut buffer, number))?;
     Ok(text)
 }
 
@@ -116,13 +123,11 @@ fn far_digits(alloc: Global, x: f64, places: u32) -> Result<Vec<u8>, AllocError>
     requires { T (float_is_finite x) }
     ensures { IfOk result (λ text. text.items ≡ map (λ d. 48 + d) (digits_of 10 (rounded x places))) }
 {
-    let (digits, all_places) = exact(alloc, x)?;
+    let (digits, all_places) = exact(x);
     if places < all_places {
-        let text = cut_text(alloc, &digits, (all_places - places) as usize)?;
-        return Ok(text);
+        return cut_text(alloc, &digits, (all_places - places) as usize);
     }
-    let text = raised_text(alloc, &digits, (places - all_places) as usize)?;
-    Ok(text)
+    raised_text(alloc, digits.as_slice(), (places - all_places) as usize)
 }
 
 /// The same, in 128 bits where they are enough.
@@ -160,7 +165,7 @@ pub(crate) fn unsigned(alloc: Global, x: f64, places: u32) -> Result<Vec<u8>, Al
 }
 
 /// The text of the size of a double: that of 0 where it is no number.
-fn size_text(alloc: Global, x: f64, places: u32) -> Result<Vec<u8>, AllocError>
+pub(crate) fn size_text(alloc: Global, x: f64, places: u32) -> Result<Vec<u8>, AllocError>
     ensures { IfOk result (λ text. text.items ≡ fixed x places) }
 {
     if x.is_finite() {

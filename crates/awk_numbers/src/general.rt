@@ -1,5 +1,5 @@
 // The text of a double by `%.Ng`.
-ghost use Rattle.std.specs.Prelude.{◌≡◌, ◌-◌, ◌<◌, ◌++◌, IfOk, T, length, replicate, take};
+ghost use Rattle.std.specs.Prelude.{◌≡◌, ◌-◌, ◌<◌, ◌≤◌, ◌++◌, IfOk, T, length, replicate, take};
 ghost use Rattle.std.specs.Float.{float_is_finite};
 ghost use Rattle.awk_numbers.specs.Decimal.{pointed};
 ghost use Rattle.awk_numbers.specs.Exponents.{exponent_text};
@@ -13,7 +13,8 @@ use std::alloc::{AllocError, Global};
 
 /// The length of the text without such bytes at its end.
 fn stripped_length(text: &[u8], last: u8) -> usize
-    ensures { take result text.now ≡ stripped last text.now }
+    ensures value { take result text.now ≡ stripped last text.now }
+    ensures fits { result ≤ length text.now }
 {
     let mut length = text.len();
     'bytes: while length > 0 {
@@ -26,27 +27,28 @@ fn stripped_length(text: &[u8], last: u8) -> usize
     0
 }
 
-/// Takes such bytes off the end.
-fn strip(text: &mut Vec<u8>, last: u8)
-    ensures { text.new.items ≡ stripped last text.old.items }
+/// The length of the text without the zeros at the end of what stands behind the point, and without the point where
+/// nothing does.
+pub(crate) fn shortened_length(text: &[u8], places: usize) -> usize
+    ensures { take result text.now ≡ shortened places text.now }
 {
-    let length = stripped_length(text, last);
-    text.truncate(length);
+    if places == 0 {
+        return text.len();
+    }
+    let length = stripped_length(text, b'0');
+    stripped_length(&text[..length], b'.')
 }
 
 /// Takes off the zeros at the end of what stands behind the point, and the point where nothing does.
 fn shorten(text: &mut Vec<u8>, places: usize)
     ensures { text.new.items ≡ shortened places text.old.items }
 {
-    if places == 0 {
-        return;
-    }
-    strip(text, b'0');
-    strip(text, b'.');
+    let length = shortened_length(text, places);
+    text.truncate(length);
 }
 
 /// Whether so many digits are written without an exponent, which is counted from -1074.
-fn is_plain(count: u16, exponent: usize) -> bool
+pub(crate) fn is_plain(count: u16, exponent: usize) -> bool
     ensures { result ≡ is_plain count exponent }
 {
     1070 <= exponent && exponent < count as usize + 1074
@@ -96,7 +98,12 @@ fn unsigned(alloc: Global, x: f64, count: u16, letter: u8) -> Result<Vec<u8>, Al
 }
 
 /// The text of the size of a double: that of 0 where it is no number.
-fn size_text(alloc: Global, x: f64, count: u16, letter: u8) -> Result<Vec<u8>, AllocError>
+pub(crate) fn size_text(
+    alloc: Global,
+    x: f64,
+    count: u16,
+    letter: u8,
+) -> Result<Vec<u8>, AllocError>
     requires { 0 < count }
     ensures { IfOk result (λ text. text.items ≡ general letter x count) }
 {
@@ -107,7 +114,7 @@ fn size_text(alloc: Global, x: f64, count: u16, letter: u8) -> Result<Vec<u8>, A
     }
 }
 
-fn at_least_one(n: u16) -> u16
+pub(crate) fn at_least_one(n: u16) -> u16
     ensures value { result ≡ at_least_one n }
     ensures some { 0 < result }
 {

@@ -1,17 +1,20 @@
 //! Laws of the two profiles. The functions do nothing: each has a law as its contract.
 
-ghost use Rattle.awk_numbers.specs.Laws.{Closed, DivRestricts, NegClosed, NegRestricts, OneValue, Restricts};
+ghost use Rattle.awk_numbers.specs.Laws.{Closed, DivRestricts, NegClosed, NegRestricts, OneValue, PowRestricts};
+ghost use Rattle.awk_numbers.specs.Laws.{Restricts};
 ghost use Rattle.awk_numbers.specs.Operators.{add, div, mul, rem, sub};
+ghost use Rattle.awk_numbers.specs.Powers.{pow};
 ghost use Rattle.awk_numbers.specs.declared.number.Numbers.TheVariants as profile;
 
 /// For whole operands of a size up to 2^53, both profiles give the same wherever the whole one's result is of such a
-/// size too; of a quotient only where nothing remains.
+/// size too; of a quotient only where nothing remains, and of a power where the second operand is not below 0.
 pub fn restriction()
     ensures sum { Restricts add }
     ensures difference { Restricts sub }
     ensures product { Restricts mul }
     ensures quotient { DivRestricts }
     ensures remainder { Restricts rem }
+    ensures power { PowRestricts }
     ensures negative { NegRestricts }
 {}
 
@@ -22,6 +25,7 @@ pub fn closed()
     ensures product { Closed mul }
     ensures quotient { Closed div }
     ensures remainder { Closed rem }
+    ensures power { Closed pow }
     ensures negative { NegClosed }
 {}
 

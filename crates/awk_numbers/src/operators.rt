@@ -2,9 +2,11 @@
 ghost use Rattle.std.specs.Prelude.{◌≡◌};
 ghost use Rattle.awk_numbers.specs.Operators.{add, sub, mul, div, rem, whole_rem, neg, truth, order};
 ghost use Rattle.awk_numbers.specs.Operators.{is_bounded, truncated, whole_of};
+ghost use Rattle.awk_numbers.specs.Powers.{pow};
 
 use crate::doubles;
 use crate::number::{Number, NumberFault, Numbers, settle};
+use crate::powers::{self, whole_pow};
 use std::cmp::Ordering;
 use std::num::truncating_f64_to_i64;
 
@@ -97,6 +99,20 @@ pub fn whole_rem(m: i64, n: i64) -> Result<i64, NumberFault>
         return Err(NumberFault::ZeroDivisor);
     }
     Ok(m.checked_rem(n).unwrap_or(0))
+}
+
+/// `x` to the power `y`, by the profile. In profile whole it is exact, and one over a power is truncated; in profile
+/// double it is `powers::pow`. The power 0 of any number is 1. Takes no memory.
+///
+/// Fails with `NumberFault::ZeroDivisor` where `x` is zero and `y` negative, and with `NumberFault::OutOfRange` where
+/// the power is no number of the profile, or `x` is negative and `y` has a fraction.
+pub fn pow(numbers: Numbers, x: Number, y: Number) -> Result<Number, NumberFault>
+    ensures { result ≡ pow numbers x y }
+{
+    match (numbers, x, y) {
+        (Numbers::Whole, Number::Whole(m), Number::Whole(n)) => whole_pow(m, n),
+        _ => powers::pow(x, y),
+    }
 }
 
 /// The number with the other sign, by the profile. Takes no memory.

@@ -1,6 +1,7 @@
 // Numbers by `%.Nf`, `%.Ne` and `%.Ng`.
+use arrayvec::ArrayVec;
 use awk_numbers::number::Number;
-use awk_numbers::{exponents, fixed, general, numeral};
+use awk_numbers::{exponents, fixed, general, numeral, short};
 
 const ROWS: [(&[u8], u32, &[u8]); 54] = [
     (b"0.125", 2, b"0.12"),
@@ -277,4 +278,52 @@ fn general_style(rt: HostRuntime) -> Result<(), std::alloc::AllocError> {
         assert_eq!(rt; made.as_slice(), *want, "row {i}");
     }
     Ok(())
+}
+
+// By `%.6g`, as CONVFMT and OFMT have it, where no one sets them.
+const SHORT: &[(&[u8], &[u8])] = &[
+    (b"0", b"0"),
+    (b"0.3333333333333333", b"0.333333"),
+    (b"-0.6666666666666666", b"-0.666667"),
+    (b"3.141592653589793", b"3.14159"),
+    (b"0.9999994", b"0.999999"),
+    (b"0.99999951", b"1"),
+    (b"9.9999949", b"9.99999"),
+    (b"9.9999951", b"10"),
+    (b"99999.951", b"100000"),
+    (b"99999.949", b"99999.9"),
+    (b"1000000.5", b"1e+06"),
+    (b"9007199254740993", b"9.0072e+15"),
+    (b"5e-324", b"4.94066e-324"),
+    (b"-2.2250738585072014e-308", b"-2.22507e-308"),
+    (b"-1.7976931348623157e308", b"-1.79769e+308"),
+    (b"1e22", b"1e+22"),
+    (b"1e23", b"1e+23"),
+    (b"0.000099999949", b"9.99999e-05"),
+    (b"0.000099999951", b"0.0001"),
+    (b"0.000123456789", b"0.000123457"),
+    (b"100000.5", b"100000"),
+    (b"100001.5", b"100002"),
+    (b"12345.65", b"12345.6"),
+    (b"12345.75", b"12345.8"),
+    (b"0.1", b"0.1"),
+    (b"1.5e300", b"1.5e+300"),
+];
+
+#[test]
+fn short_style(rt: HostRuntime) {
+    let mut out = ArrayVec::new();
+    for (i, (text, want)) in SHORT.iter().enumerate() {
+        short::write_short(operand(text).to_double(), &mut out);
+        assert_eq!(rt; out.as_slice(), *want, "row {i}");
+    }
+}
+
+#[test]
+fn short_style_of_none(rt: HostRuntime) {
+    let mut out = ArrayVec::new();
+    short::write_short(f64::NAN, &mut out);
+    assert_eq!(rt; out.as_slice(), b"0".as_slice());
+    short::write_short(f64::NEG_INFINITY, &mut out);
+    assert_eq!(rt; out.as_slice(), b"-0".as_slice());
 }

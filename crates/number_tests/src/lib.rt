@@ -4,6 +4,10 @@
 #[cfg(test)]
 mod formats;
 #[cfg(test)]
+mod functions;
+#[cfg(test)]
 mod numerals;
 #[cfg(test)]
 mod operators;
+#[cfg(test)]
+mod powers;

@@ -117,7 +117,7 @@ fn result_of(numbers: Numbers, x: Number, sign: u8, y: Number) -> Result<Number,
     }
 }
 
-fn is_same(x: Number, y: Number) -> bool {
+pub(crate) fn is_same(x: Number, y: Number) -> bool {
     match (x, y) {
         (Number::Whole(m), Number::Whole(n)) => m == n,
         (Number::Real(a), Number::Real(b)) => a == b,
@@ -125,7 +125,7 @@ fn is_same(x: Number, y: Number) -> bool {
     }
 }
 
-fn is_wanted(got: Result<Number, NumberFault>, want: &[u8]) -> bool {
+pub(crate) fn is_wanted(got: Result<Number, NumberFault>, want: &[u8]) -> bool {
     match got {
         Ok(x) => match numeral::looks_numeric(want) {
             Some(y) => is_same(x, y),
@@ -136,7 +136,7 @@ fn is_wanted(got: Result<Number, NumberFault>, want: &[u8]) -> bool {
     }
 }
 
-fn operand(text: &[u8]) -> Number {
+pub(crate) fn operand(text: &[u8]) -> Number {
     numeral::number(text).unwrap_or(Number::Whole(0))
 }
 
@@ -148,7 +148,10 @@ fn doubles(rt: HostRuntime) {
     }
 }
 
-fn is_wanted_whole(got: Result<Number, NumberFault>, want: Result<i64, NumberFault>) -> bool {
+pub(crate) fn is_wanted_whole(
+    got: Result<Number, NumberFault>,
+    want: Result<i64, NumberFault>,
+) -> bool {
     match (got, want) {
         (Ok(Number::Whole(n)), Ok(m)) => n == m,
         (Err(NumberFault::OutOfRange), Err(NumberFault::OutOfRange)) => true,

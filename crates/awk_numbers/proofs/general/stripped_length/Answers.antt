@@ -9,8 +9,8 @@ bytes-init c =
     let xs = c.args.text.now in
     (omega arith, ap (stripped c.args.last) (sym (take_all (length xs) xs (omega arith))))
 
-pub returns-then-byte-last : goal.returns-then-byte-last
-returns-then-byte-last c = kept_end c.args.text.now c.args.last c.bytes.length c.bytes.invariant.0
+pub returns-then-byte-last-clause-value : goal.returns-then-byte-last-clause-value
+returns-then-byte-last-clause-value c = kept_end c.args.text.now c.args.last c.bytes.length c.bytes.invariant.0
     (omega (arith, c.bytes-test.true)) c.if-byte-last.true c.bytes.invariant.1
 
 pub bytes-preserved : goal.bytes-preserved
@@ -20,7 +20,7 @@ bytes-preserved c = (
       c.if-byte-last.false c.bytes.invariant.1,
 )
 
-pub returns : goal.returns
-returns c =
+pub returns-clause-value : goal.returns-clause-value
+returns-clause-value c =
     let none : c.bytes.length ≡ 0 = omega (arith, c.bytes-test.false) in
     sym (c.bytes.invariant.1 ∙ ap (λ (k : ℕ). stripped c.args.last (take k c.args.text.now)) none)

@@ -1,4 +1,5 @@
 use Rattle.awk_numbers.proofs.Canonical.{closed_add, closed_sub, closed_mul, closed_div, closed_rem, closed_neg}
+use Rattle.awk_numbers.proofs.PowerLaws.{closed_pow}
 use Rattle.awk_numbers.proofs.laws.closed.Goals as goal
 
 pub returns-clause-sum : goal.returns-clause-sum
@@ -18,3 +19,6 @@ returns-clause-remainder c = closed_rem
 
 pub returns-clause-negative : goal.returns-clause-negative
 returns-clause-negative c = closed_neg
+
+pub returns-clause-power : goal.returns-clause-power
+returns-clause-power c = closed_pow

@@ -9,6 +9,7 @@ use Rattle.awk_numbers.specs.Numbers.{settled}
 use Rattle.awk_numbers.specs.Operators.{is_int_zero, ranged}
 use Rattle.awk_numbers.proofs.Exact.{add_exact, sub_exact, mul_exact, div_exact, rem_exact, neg_exact, ranged_is}
 use Rattle.awk_numbers.proofs.Exact.{same_whole, not_zero}
+use Rattle.awk_numbers.proofs.PowerLaws.{power_restricts}
 use Rattle.awk_numbers.proofs.laws.restriction.Goals as goal
 
 abbrev small : ℤ → Type 0
@@ -50,3 +51,6 @@ returns-clause-remainder c m n z p q r = go (is_int_zero n) (not_zero n)
 
 pub returns-clause-negative : goal.returns-clause-negative
 returns-clause-negative c n z p q e = neg_exact n p ∙ ap (λ (k : ℤ). Ok (Whole k)) (ranged_is _ z e)
+
+pub returns-clause-power : goal.returns-clause-power
+returns-clause-power c = power_restricts
