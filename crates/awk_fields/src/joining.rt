@@ -6,9 +6,9 @@ ghost use Rattle.awk_text.specs.Limits.{most_bytes};
 
 use crate::part::{Part, part_text};
 use awk_text::Memory;
+use awk_text::buffer::Buffer;
 use awk_text::fault::Fault;
 use awk_text::texts::MOST_BYTES;
-use itoa::Buffer;
 
 /// Puts the texts of the parts, with `ofs` between, in place of what `made` holds.
 pub fn join(made: &mut Vec<u8>, parts: &[Part], text: &[u8], ofs: &[u8]) -> Result<(), Memory>

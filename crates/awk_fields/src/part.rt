@@ -7,11 +7,11 @@ ghost use Rattle.awk_fields.specs.Spans.{IsWithin, part};
 
 use crate::spans::Span;
 use awk_text::Memory;
+use awk_text::buffer::Buffer;
 use awk_text::fault::Fault;
 use awk_text::lent::Lent;
 use awk_text::octets::Octets;
 use awk_text::value::{Value, text_in};
-use itoa::Buffer;
 use std::alloc::Global;
 
 #[derive(Drop)]

@@ -11,7 +11,8 @@ use Rattle.std.proofs.Math.Seq.{take-length, drop-length}
 use Rattle.std.specs.Char.{digit_value, is_ascii_digit}
 use Rattle.std.specs.List.{list_all, prefix_len, take_while}
 use Rattle.std.specs.Str.Parse.{digits_value}
-use Rattle.awk_text.specs.Arithmetic.{is_in_range, ranged}
+use Rattle.awk_numbers.specs.Operators.{is_in_range}
+use Rattle.awk_text.specs.Arithmetic.{ranged}
 use Rattle.awk_text.specs.Numerals.{after_sign, drop_while, has_minus, is_blank, is_numeral, looks_numeric, number}
 
 digit_value_is : (b : ℕ) → is_ascii_digit b ≡ true → digit_value b ≡ b - 48
@@ -55,7 +56,7 @@ all_of (b ∷ bs) all =
 body_of : (b : ℕ) (bs : List ℕ) → is_ascii_digit b ≡ true → drop_while is_blank (b ∷ bs) ≡ b ∷ bs
 body_of b bs digit = rw (no_blank b digit) refl
 
-number_is : (text : List ℕ) → 0 < length text → prefix_len is_ascii_digit text ≡ length text
+pub number_is : (text : List ℕ) → 0 < length text → prefix_len is_ascii_digit text ≡ length text
     → (drop_while is_blank text ≡ text) × (after_sign text ≡ text) × (has_minus text ≡ false)
 number_is [] some all = absurd (omega (arith, some))
 number_is (b ∷ bs) some all =

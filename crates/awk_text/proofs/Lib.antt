@@ -1,6 +1,6 @@
+mod Doubles
 mod Fronts
 mod Numbers
 mod Octals
-mod Powers
 mod Readings
 pub mod Digits

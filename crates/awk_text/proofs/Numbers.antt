@@ -6,7 +6,8 @@ use Rattle.std.proofs.lemmas.Bool.Decides.{nat_tests}
 use Rattle.std.specs.List.{list_all, prefix_len, take_while}
 use Rattle.std.specs.Result.{result_ok}
 use Rattle.awk_text.specs.declared.fault.Fault.TheVariants.{OutOfRange}
-use Rattle.awk_text.specs.Arithmetic.{is_in_range, ranged}
+use Rattle.awk_numbers.specs.Operators.{is_in_range}
+use Rattle.awk_text.specs.Arithmetic.{ranged}
 use Rattle.awk_text.specs.Numerals.{after_sign, drop_while, has_minus, is_blank, is_numeral, looks_numeric, number}
 use Rattle.awk_text.specs.Numerals.{signed}
 use Rattle.std.proofs.lemmas.Int.Digits.{digits_value_more}

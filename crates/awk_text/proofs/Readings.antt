@@ -9,7 +9,7 @@ use Rattle.std.specs.Prelude.{IfNone, IfSome, unwrap_or}
 use Rattle.std.specs.Char.{is_ascii_digit}
 use Rattle.std.specs.List.{list_all, prefix_len, take_while}
 use Rattle.std.specs.Str.Parse.{digits_value}
-use Rattle.awk_text.specs.Arithmetic.{is_in_range}
+use Rattle.awk_numbers.specs.Operators.{is_in_range}
 use Rattle.awk_text.specs.Numerals.{after_sign, drop_while, has_minus, is_blank, is_numeral, looks_numeric, number}
 use Rattle.awk_text.specs.Numerals.{signed}
 use Rattle.awk_text.specs.Readings.{Looks, Number, Sign, Spells, minus, plus, sign_text, unsigned, with_sign}

@@ -1,45 +1,51 @@
--- Arithmetic on whole numbers from -2^63 to 2^63 - 1. POSIX.1-2017, XCU awk, "Expressions in awk", has the operators
--- on floating point; here a result is exact, or it is F1, and a quotient is truncated toward zero.
-use Rattle.std.specs.Prelude.{suc, ◌^◌, Bool, false, ◌==◌, nat_lt, ℤ, pos, negsuc, ◌+ℤ◌, ◌-ℤ◌, ◌*ℤ◌, neg_ℤ, int_div}
-use Rattle.std.specs.Prelude.{int_rem, Result, Ok, Err, if◌then◌else◌}
-use Rattle.std.specs.Int.{int_pow}
+-- Arithmetic by profile, with the faults of a run: POSIX.1-2017, XCU awk, "Expressions in awk". What the operators give
+-- is awk_numbers': in profile whole a result is exact, or it is F1, and a quotient is truncated toward zero.
+use Rattle.std.specs.Prelude.{ℤ, Result, Ok, Err, if◌then◌else◌}
+use Rattle.std.specs.Float.{float_to_signed}
+use Rattle.std.specs.Int.{w64}
+use Rattle.awk_numbers.specs.declared.number.Number.{Number}
+use Rattle.awk_numbers.specs.declared.number.Number.TheVariants.{Whole, Real}
+use Rattle.awk_numbers.specs.declared.number.Numbers.{Numbers}
+use Rattle.awk_numbers.specs.Operators as on
+use Rattle.awk_numbers.specs.Powers as powers
 use Rattle.awk_text.specs.declared.fault.Fault.{Fault}
-use Rattle.awk_text.specs.declared.fault.Fault.TheVariants.{OutOfRange, ZeroDivisor}
+use Rattle.awk_text.specs.declared.fault.Fault.TheVariants.{OutOfRange}
+use Rattle.awk_text.specs.Faults.{or_fault}
 
--- from -2^63 to 2^63 - 1: `negsuc n` is -(n + 1)
-abbrev pub is_in_range : ℤ → Bool
-is_in_range (pos n) = nat_lt n (2 ^ 63)
-is_in_range (negsuc n) = nat_lt n (2 ^ 63)
-
-abbrev pub is_zero : ℤ → Bool
-is_zero (pos n) = n == 0
-is_zero (negsuc n) = false
-
--- the number, or F1 where it is out of range
+-- the whole number of 64 bits, or F1 where it is out of range
 abbrev pub ranged : ℤ → Result ℤ Fault
-ranged z = if is_in_range z then Ok z else Err OutOfRange
+ranged z = if on.is_in_range z then Ok z else Err OutOfRange
 
-abbrev pub add : ℤ → ℤ → Result ℤ Fault
-add a b = ranged (a +ℤ b)
+abbrev pub add : Numbers → Number → Number → Result Number Fault
+add numbers a b = or_fault (on.add numbers a b)
 
-abbrev pub sub : ℤ → ℤ → Result ℤ Fault
-sub a b = ranged (a -ℤ b)
+abbrev pub sub : Numbers → Number → Number → Result Number Fault
+sub numbers a b = or_fault (on.sub numbers a b)
 
-abbrev pub mul : ℤ → ℤ → Result ℤ Fault
-mul a b = ranged (a *ℤ b)
+abbrev pub mul : Numbers → Number → Number → Result Number Fault
+mul numbers a b = or_fault (on.mul numbers a b)
 
--- the quotient, truncated; F2 where the divisor is zero
-abbrev pub div : ℤ → ℤ → Result ℤ Fault
-div a b = if is_zero b then Err ZeroDivisor else ranged (int_div a b)
+abbrev pub div : Numbers → Number → Number → Result Number Fault
+div numbers a b = or_fault (on.div numbers a b)
 
--- what the truncated quotient leaves, with the sign of the dividend
-abbrev pub rem : ℤ → ℤ → Result ℤ Fault
-rem a b = if is_zero b then Err ZeroDivisor else Ok (int_rem a b)
+abbrev pub rem : Numbers → Number → Number → Result Number Fault
+rem numbers a b = or_fault (on.rem numbers a b)
 
--- a to the power b. Where b is negative it is 1 / a^(-b), truncated, and F2 where a is zero.
-abbrev pub pow : ℤ → ℤ → Result ℤ Fault
-pow a (pos n) = ranged (int_pow a n)
-pow a (negsuc n) = if is_zero a then Err ZeroDivisor else Ok (int_div (pos 1) (int_pow a (suc n)))
+abbrev pub pow : Numbers → Number → Number → Result Number Fault
+pow numbers a b = or_fault (powers.pow numbers a b)
 
-abbrev pub neg : ℤ → Result ℤ Fault
-neg a = ranged (neg_ℤ a)
+abbrev pub neg : Numbers → Number → Result Number Fault
+neg numbers a = or_fault (on.neg numbers a)
+
+-- without the fraction
+abbrev pub truncated : Number → Result Number Fault
+truncated a = or_fault (on.truncated a)
+
+-- without the fraction; what 64 bits can't hold is the first or the last that they can
+abbrev pub clamped : Number → ℤ
+clamped (Whole n) = n
+clamped (Real x) = float_to_signed w64 x
+
+-- without the fraction, as 64 bits hold it; F1 where they can't
+abbrev pub whole_of : Number → Result ℤ Fault
+whole_of a = or_fault (on.whole_of a)

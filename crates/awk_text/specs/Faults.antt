@@ -1,5 +1,7 @@
 -- The codes of the faults, F1 to F13, and their texts.
-use Rattle.std.specs.Prelude.{ℕ, List, codes}
+use Rattle.std.specs.Prelude.{ℕ, List, codes, Result, Ok, Err}
+use Rattle.awk_numbers.specs.declared.number.NumberFault.{NumberFault}
+use Rattle.awk_numbers.specs.declared.number.NumberFault.TheVariants as of
 use Rattle.awk_text.specs.declared.fault.Fault.{Fault}
 use Rattle.awk_text.specs.declared.fault.Fault.TheVariants.{OutOfRange, ZeroDivisor, Pattern, Format, CallDepth}
 use Rattle.awk_text.specs.declared.fault.Fault.TheVariants.{TextTooLong, Output, NextOutside, FieldNumber}
@@ -36,3 +38,12 @@ fault_text TooManyElements = codes "array too large"
 fault_text StepBound = codes "step bound reached"
 fault_text Log = codes "cannot write the denial log"
 fault_text Memory = codes "out of memory"
+
+-- why there is no number, as a fault of the run: F1 or F2
+abbrev pub fault_of : NumberFault → Fault
+fault_of of.OutOfRange = OutOfRange
+fault_of of.ZeroDivisor = ZeroDivisor
+
+abbrev pub or_fault : {A : Type 0} → Result A NumberFault → Result A Fault
+or_fault (Ok x) = Ok x
+or_fault (Err e) = Err (fault_of e)

@@ -1,11 +1,20 @@
 -- Numbers that texts begin with. POSIX.1-2017, XCU awk, "Expressions in awk": the initial portion of a string is
--- blanks and a numeric constant; here a whole one in base ten.
+-- blanks and a numeric constant; in profile whole a whole one in base ten, in profile double as awk_numbers has it.
 use Rattle.std.specs.Prelude.{ℕ, Bool, false, ◌&&◌, ◌||◌, ◌==◌, nat_lt, nat_le, ℤ, pos, neg_ℤ, List, [], ◌∷◌, drop}
-use Rattle.std.specs.Prelude.{Option, Some, None, if◌then◌else◌}
+use Rattle.std.specs.Prelude.{Option, Some, None, Result, Ok, Err, if◌then◌else◌}
 use Rattle.std.specs.List.{prefix_len, take_while, list_all}
 use Rattle.std.specs.Char.{is_ascii_digit}
 use Rattle.std.specs.Str.Parse.{digits_value}
-use Rattle.awk_text.specs.Arithmetic.{is_in_range}
+use Rattle.std.specs.Option.{option_map}
+use Rattle.awk_numbers.specs.declared.number.Number.{Number}
+use Rattle.awk_numbers.specs.declared.number.Number.TheVariants.{Whole}
+use Rattle.awk_numbers.specs.declared.number.Numbers.{Numbers}
+use Rattle.awk_numbers.specs.declared.number.Numbers.TheVariants as profile
+use Rattle.awk_numbers.specs.Numerals as double
+use Rattle.awk_numbers.specs.Operators.{is_in_range}
+use Rattle.awk_text.specs.declared.fault.Fault.{Fault}
+use Rattle.awk_text.specs.Arithmetic.{ranged}
+use Rattle.awk_text.specs.Faults.{or_fault}
 
 -- the bytes of `isspace()` in the POSIX locale: 9 to 13, and the space
 abbrev pub is_blank : ℕ → Bool
@@ -40,3 +49,23 @@ is_numeral text = nat_lt 0 (prefix_len is_ascii_digit text) && list_all is_blank
 abbrev pub looks_numeric : List ℕ → Option ℤ
 looks_numeric text =
     if is_numeral (after_sign (drop_while is_blank text)) && is_in_range (number text) then Some (number text) else None
+
+-- a whole number as a number
+abbrev pub wholly : Result ℤ Fault → Result Number Fault
+wholly (Ok n) = Ok (Whole n)
+wholly (Err e) = Err e
+
+-- the number that a text begins with, by the profile
+abbrev pub number_in : Numbers → List ℕ → Result Number Fault
+number_in profile.Whole text = wholly (ranged (number text))
+number_in profile.Double text = or_fault (double.number text)
+
+-- the number of a text that looks numeric, by the profile
+abbrev pub looks_in : Numbers → List ℕ → Option Number
+looks_in profile.Whole text = option_map Whole (looks_numeric text)
+looks_in profile.Double text = double.looks_numeric text
+
+-- so many digits, and nothing else, are a number that no test of its range is needed for
+abbrev pub most_digits : Numbers → ℕ
+most_digits profile.Whole = 18
+most_digits profile.Double = 15

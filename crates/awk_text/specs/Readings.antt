@@ -3,7 +3,7 @@ use Rattle.std.specs.Prelude.{◌≡◌, ℕ, ◌<◌, ◌≤◌, true, ℤ, pos
 use Rattle.std.specs.Char.{is_ascii_digit}
 use Rattle.std.specs.List.{list_all}
 use Rattle.std.specs.Str.Parse.{digits_value}
-use Rattle.awk_text.specs.Arithmetic.{is_in_range}
+use Rattle.awk_numbers.specs.Operators.{is_in_range}
 use Rattle.awk_text.specs.Numerals.{is_blank}
 
 -- an optional sign

@@ -1,88 +1,105 @@
-// Arithmetic on whole numbers.
+// Arithmetic by profile, with the faults of a run.
 ghost use Rattle.std.specs.Prelude.{◌≡◌};
-ghost use Rattle.awk_text.specs.Arithmetic.{add, div, mul, neg, pow, rem, sub};
+ghost use Rattle.awk_text.specs.Arithmetic.{add, clamped, div, mul, neg, pow, rem, sub, truncated, whole_of};
 
 use crate::fault::Fault;
+use awk_numbers::number::{Number, Numbers};
+use awk_numbers::operators;
+use std::num::saturating_f64_to_i64;
 
 /// The sum. Takes no memory.
 ///
 /// Fails with `Fault::OutOfRange` where it is out of range.
 #[inline(always)]
-pub fn add(a: i64, b: i64) -> Result<i64, Fault>
-    ensures { result ≡ add a b }
+pub fn add(numbers: Numbers, a: Number, b: Number) -> Result<Number, Fault>
+    ensures { result ≡ add numbers a b }
 {
-    a.checked_add(b).ok_or(Fault::OutOfRange)
+    Ok(operators::add(numbers, a, b)?)
 }
 
 /// The difference. Takes no memory.
 ///
 /// Fails with `Fault::OutOfRange` where it is out of range.
 #[inline(always)]
-pub fn sub(a: i64, b: i64) -> Result<i64, Fault>
-    ensures { result ≡ sub a b }
+pub fn sub(numbers: Numbers, a: Number, b: Number) -> Result<Number, Fault>
+    ensures { result ≡ sub numbers a b }
 {
-    a.checked_sub(b).ok_or(Fault::OutOfRange)
+    Ok(operators::sub(numbers, a, b)?)
 }
 
 /// The product. Takes no memory.
 ///
 /// Fails with `Fault::OutOfRange` where it is out of range.
 #[inline(always)]
-pub fn mul(a: i64, b: i64) -> Result<i64, Fault>
-    ensures { result ≡ mul a b }
+pub fn mul(numbers: Numbers, a: Number, b: Number) -> Result<Number, Fault>
+    ensures { result ≡ mul numbers a b }
 {
-    a.checked_mul(b).ok_or(Fault::OutOfRange)
+    Ok(operators::mul(numbers, a, b)?)
 }
 
-/// The quotient, truncated toward zero. Takes no memory.
+/// The quotient: in profile whole truncated toward zero. Takes no memory.
 ///
-/// Fails with `Fault::ZeroDivisor` where `b` is zero, and with `Fault::OutOfRange` at -2^63 by -1.
-pub fn div(a: i64, b: i64) -> Result<i64, Fault>
-    ensures { result ≡ div a b }
+/// Fails with `Fault::ZeroDivisor` where `b` is zero, and with `Fault::OutOfRange` where the quotient is out of range.
+pub fn div(numbers: Numbers, a: Number, b: Number) -> Result<Number, Fault>
+    ensures { result ≡ div numbers a b }
 {
-    if b == 0 {
-        return Err(Fault::ZeroDivisor);
-    }
-    a.checked_div(b).ok_or(Fault::OutOfRange)
+    Ok(operators::div(numbers, a, b)?)
 }
 
 /// What the truncated quotient leaves, with the sign of `a`. Takes no memory.
 ///
 /// Fails with `Fault::ZeroDivisor` where `b` is zero.
-pub fn rem(a: i64, b: i64) -> Result<i64, Fault>
-    ensures { result ≡ rem a b }
+pub fn rem(numbers: Numbers, a: Number, b: Number) -> Result<Number, Fault>
+    ensures { result ≡ rem numbers a b }
 {
-    if b == 0 {
-        return Err(Fault::ZeroDivisor);
-    }
-    Ok(a.checked_rem(b).unwrap_or(0))
+    Ok(operators::rem(numbers, a, b)?)
 }
 
-/// `a` to the power `b`. The power 0 of any number is 1; where `b` is negative, the exact value is
-/// truncated toward zero. Takes no memory.
+/// `a` to the power `b`. Takes no memory.
 ///
-/// Fails with `Fault::ZeroDivisor` where `a` is zero and `b` negative, and with
-/// `Fault::OutOfRange` where the power is out of range.
-pub fn pow(a: i64, b: i64) -> Result<i64, Fault>
-    ensures { result ≡ pow a b }
+/// Fails with `Fault::ZeroDivisor` where `a` is zero and `b` negative, and with `Fault::OutOfRange` where the power is
+/// out of range or none.
+pub fn pow(numbers: Numbers, a: Number, b: Number) -> Result<Number, Fault>
+    ensures { result ≡ pow numbers a b }
 {
-    match a {
-        _ if b == 0 => Ok(1),
-        0 if b < 0 => Err(Fault::ZeroDivisor),
-        0 => Ok(0),
-        1 => Ok(1),
-        -1 => Ok(if b.unsigned_abs() % 2 == 0 { 1 } else { -1 }),
-        _ if b < 0 => Ok(0),
-        _ if 64 <= b => Err(Fault::OutOfRange),
-        _ => a.checked_pow(b as u32).ok_or(Fault::OutOfRange),
-    }
+    Ok(operators::pow(numbers, a, b)?)
 }
 
 /// The number with the other sign. Takes no memory.
 ///
-/// Fails with `Fault::OutOfRange` at -2^63.
-pub fn neg(a: i64) -> Result<i64, Fault>
-    ensures { result ≡ neg a }
+/// Fails with `Fault::OutOfRange` where it is out of range.
+pub fn neg(numbers: Numbers, a: Number) -> Result<Number, Fault>
+    ensures { result ≡ neg numbers a }
 {
-    a.checked_neg().ok_or(Fault::OutOfRange)
+    Ok(operators::neg(numbers, a)?)
+}
+
+/// The number without its fraction. Takes no memory.
+///
+/// Fails with `Fault::OutOfRange` where `a` is no number.
+pub fn truncated(a: Number) -> Result<Number, Fault>
+    ensures { result ≡ truncated a }
+{
+    Ok(operators::truncated(a)?)
+}
+
+/// The number without its fraction; what 64 bits can't hold is the first or the last that they can. Takes no memory.
+#[inline(always)]
+pub fn clamped(a: Number) -> i64
+    ensures { result ≡ clamped a }
+{
+    match a {
+        Number::Whole(n) => n,
+        Number::Real(x) => saturating_f64_to_i64(x),
+    }
+}
+
+/// The number without its fraction, as 64 bits hold it. Takes no memory.
+///
+/// Fails with `Fault::OutOfRange` where they can't.
+#[inline(always)]
+pub fn whole_of(a: Number) -> Result<i64, Fault>
+    ensures { result ≡ whole_of a }
+{
+    Ok(operators::whole_of(a)?)
 }

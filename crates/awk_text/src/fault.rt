@@ -2,6 +2,7 @@
 ghost use Rattle.std.specs.Prelude.{◌≡◌, Some};
 ghost use Rattle.awk_text.specs.Faults.{code_of, fault_text};
 
+use awk_numbers::number::NumberFault;
 use std::alloc::{AllocError, AllocFailed};
 use std::error::Error;
 use std::fmt;
@@ -78,6 +79,20 @@ impl fmt::Display for Fault {
 }
 
 impl Error for Fault {}
+
+impl From<NumberFault> for Fault {
+    ghost use Rattle.std.specs.Prelude.{◌≡◌};
+    ghost use Rattle.awk_text.specs.Faults.{fault_of};
+
+    ghost from_gives = { λ n e. e ≡ fault_of n };
+
+    fn from(error: NumberFault) -> Fault {
+        match error {
+            NumberFault::OutOfRange => Fault::OutOfRange,
+            NumberFault::ZeroDivisor => Fault::ZeroDivisor,
+        }
+    }
+}
 
 impl From<AllocError> for Fault {
     ghost use Rattle.std.specs.Prelude.{◌≡◌};

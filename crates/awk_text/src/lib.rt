@@ -2,6 +2,7 @@
 #![tactic(auto)]
 
 pub mod arithmetic;
+pub mod buffer;
 pub mod escape;
 pub mod fault;
 pub mod lent;

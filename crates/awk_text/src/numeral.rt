@@ -4,10 +4,13 @@ ghost use Rattle.std.specs.Char.{is_ascii_digit};
 ghost use Rattle.std.specs.List.{list_all, prefix_len, take_while};
 ghost use Rattle.std.specs.Str.Parse.{digits_value};
 ghost use Rattle.awk_text.specs.Arithmetic.{ranged};
-ghost use Rattle.awk_text.specs.Readings.{Looks, Number};
-ghost use Rattle.awk_text.specs.Numerals.{after_sign, drop_while, has_minus, is_blank, looks_numeric, number, signed};
+ghost use Rattle.awk_text.specs.Readings as reading;
+ghost use Rattle.awk_text.specs.Numerals.{after_sign, drop_while, has_minus, is_blank, looks_in, looks_numeric, number};
+ghost use Rattle.awk_text.specs.Numerals.{number_in, signed};
 
 use crate::fault::Fault;
+use awk_numbers::number::{Number, Numbers};
+use awk_numbers::numeral as double;
 
 fn is_blank(b: u8) -> bool
     ensures { result ≡ is_blank b }
@@ -80,7 +83,7 @@ fn with_sign(minus: bool, size: u64) -> Result<i64, Fault>
 /// Fails with `Fault::OutOfRange` where it is out of range.
 pub fn number(text: &[u8]) -> Result<i64, Fault>
     ensures value { result ≡ ranged (number text.now) }
-    ensures reading { Number text.now (number text.now) }
+    ensures reading { reading.Number text.now (number text.now) }
 {
     let (minus, body) = split_sign(skip_blanks(text));
     let (_, size) = leading_digits(body);
@@ -91,8 +94,8 @@ pub fn number(text: &[u8]) -> Result<i64, Fault>
 /// more digits, and blanks, and in range. Takes no memory.
 pub fn looks_numeric(text: &[u8]) -> Option<i64>
     ensures value { result ≡ looks_numeric text.now }
-    ensures reading { IfSome result (Looks text.now) }
-    ensures only { IfNone result ((z : ℤ) → ¬ Looks text.now z) }
+    ensures reading { IfSome result (reading.Looks text.now) }
+    ensures only { IfNone result ((z : ℤ) → ¬ reading.Looks text.now z) }
 {
     let (minus, body) = split_sign(skip_blanks(text));
     let (count, size) = leading_digits(body);
@@ -100,4 +103,26 @@ pub fn looks_numeric(text: &[u8]) -> Option<i64>
         return None;
     }
     with_sign(minus, size).ok()
+}
+
+/// The number that the text begins with, by the profile. Takes no memory.
+///
+/// Fails with `Fault::OutOfRange` where it is out of range.
+pub fn number_in(numbers: Numbers, text: &[u8]) -> Result<Number, Fault>
+    ensures { result ≡ number_in numbers text.now }
+{
+    match numbers {
+        Numbers::Whole => Ok(Number::Whole(number(text)?)),
+        Numbers::Double => Ok(double::number(text)?),
+    }
+}
+
+/// The number of a text that looks numeric, by the profile. Takes no memory.
+pub fn looks_in(numbers: Numbers, text: &[u8]) -> Option<Number>
+    ensures { result ≡ looks_in numbers text.now }
+{
+    match numbers {
+        Numbers::Whole => Some(Number::Whole(looks_numeric(text)?)),
+        Numbers::Double => double::looks_numeric(text),
+    }
 }

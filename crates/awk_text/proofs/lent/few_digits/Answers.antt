@@ -7,7 +7,9 @@ use Rattle.std.proofs.Math.Seq.{take-length}
 use Rattle.std.specs.List.{prefix_len}
 use Rattle.std.specs.Char.{is_ascii_digit}
 use Rattle.std.specs.Str.Parse.{digits_value}
-use Rattle.awk_text.proofs.Digits.{all_of, few, fewer, looks_so, next_power, one_more, ranged_so}
+use Rattle.awk_numbers.specs.declared.number.Number.TheVariants.{Whole}
+use Rattle.awk_text.proofs.Digits.{all_of, few, fewer, next_power, one_more}
+use Rattle.awk_text.proofs.Doubles.{at_most, few_looks, few_number}
 use Rattle.awk_text.proofs.lent.few_digits.Goals as goal
 
 pub overflow_mul-value : goal.overflow_mul-value
@@ -15,7 +17,7 @@ overflow_mul-value c =
     record {
       fits = omega (
         arith,
-        fewer c.loop-b.b-index c.loop-b.value (omega arith)
+        fewer c.loop-b.b-index c.loop-b.value (omega (arith, at_most c.args.numbers))
             (omega (arith, c.loop-b.invariant.1, c.loop-b.invariant.2)),
       );
     }
@@ -25,7 +27,7 @@ overflow_add-value c =
     record {
       fits = omega (
         arith,
-        fewer c.loop-b.b-index c.loop-b.value (omega arith)
+        fewer c.loop-b.b-index c.loop-b.value (omega (arith, at_most c.args.numbers))
             (omega (arith, c.loop-b.invariant.1, c.loop-b.invariant.2)),
         c.from.ensures,
         c.type_inv.text c.loop-b.b-index,
@@ -47,7 +49,7 @@ loop-b-preserved c =
 
 pub overflow_cast-result : goal.overflow_cast-result
 overflow_cast-result c =
-    let small = few c.loop-b.b-index c.loop-b.value (omega arith)
+    let small = few c.loop-b.b-index c.loop-b.value (omega (arith, at_most c.args.numbers))
     (omega (arith, c.loop-b.invariant.1, c.loop-b.invariant.2)) in
     fits_signed_from_abs w64 (pos c.loop-b.value) (omega (arith, small))
 
@@ -59,7 +61,7 @@ returns-clause-number c =
     let some : 0 < length text = grind (arith, nat_tests) in
     let is : c.loop-b.value ≡ digits_value 10 text = c.loop-b.invariant.1 ∙ ap (λ n. digits_value 10 (take n text)) end
     ∙ ap (digits_value 10) (take-length text) in
-    let small = few i c.loop-b.value (omega arith) (omega (arith, c.loop-b.invariant.1, c.loop-b.invariant.2)) in
+    let small = few i c.loop-b.value (omega (arith, at_most c.args.numbers)) (omega (arith, c.loop-b.invariant.1, c.loop-b.invariant.2)) in
     let all : prefix_len is_ascii_digit text ≡ length text = omega (
       arith,
       c.loop-b.invariant.0,
@@ -67,8 +69,9 @@ returns-clause-number c =
       prefix_len-le-length is_ascii_digit (drop i text),
       length-drop i text,
     ) in
-    ranged_so text some all (omega (arith, is, small)) ∙ ap (λ n. Ok (pos n)) (sym is)
-    ∙ ap Ok (sym (to_z_pos w64 c.loop-b.value (omega (arith, small))))
+    few_number text some all c.args.numbers i (omega arith) (omega (arith, is, c.loop-b.invariant.1, c.loop-b.invariant.2))
+    ∙ ap (λ n. Ok (Whole (pos n))) (sym is)
+    ∙ ap (λ z. Ok (Whole z)) (sym (to_z_pos w64 c.loop-b.value (omega (arith, small))))
 
 pub returns-clause-looks : goal.returns-clause-looks
 returns-clause-looks c =
@@ -78,7 +81,7 @@ returns-clause-looks c =
     let some : 0 < length text = grind (arith, nat_tests) in
     let is : c.loop-b.value ≡ digits_value 10 text = c.loop-b.invariant.1 ∙ ap (λ n. digits_value 10 (take n text)) end
     ∙ ap (digits_value 10) (take-length text) in
-    let small = few i c.loop-b.value (omega arith) (omega (arith, c.loop-b.invariant.1, c.loop-b.invariant.2)) in
+    let small = few i c.loop-b.value (omega (arith, at_most c.args.numbers)) (omega (arith, c.loop-b.invariant.1, c.loop-b.invariant.2)) in
     let all : prefix_len is_ascii_digit text ≡ length text = omega (
       arith,
       c.loop-b.invariant.0,
@@ -86,8 +89,9 @@ returns-clause-looks c =
       prefix_len-le-length is_ascii_digit (drop i text),
       length-drop i text,
     ) in
-    looks_so text some all (omega (arith, is, small)) ∙ ap (λ n. Some (pos n)) (sym is)
-    ∙ ap Some (sym (to_z_pos w64 c.loop-b.value (omega (arith, small))))
+    few_looks text some all c.args.numbers i (omega arith) (omega (arith, is, c.loop-b.invariant.1, c.loop-b.invariant.2))
+    ∙ ap (λ n. Some (Whole (pos n))) (sym is)
+    ∙ ap (λ z. Some (Whole z)) (sym (to_z_pos w64 c.loop-b.value (omega (arith, small))))
 
 pub returns-clause-few : goal.returns-clause-few
 returns-clause-few c =
@@ -99,4 +103,4 @@ returns-clause-few c =
       prefix_len-le-length is_ascii_digit (drop i text),
       length-drop i text,
     ) in
-    (grind (arith, nat_tests), omega arith, all_of text all)
+    (grind (arith, nat_tests), omega (arith, at_most c.args.numbers), all_of text all)
