@@ -1,3 +1,4 @@
 mod Flags
 mod Radix
+mod Signed
 mod Steps

@@ -8,6 +8,7 @@ use Rattle.std.proofs.lemmas.List.{drop-drop, drop_min, drop_more}
 use Rattle.std.proofs.lemmas.List.Sums.{passes_at_first}
 use Rattle.std.specs.Char.{is_ascii_digit}
 use Rattle.std.specs.List.{position_or_len, prefix_len}
+use Rattle.awk_numbers.specs.declared.number.Numbers.{Numbers}
 use Rattle.awk_text.specs.Numerals.{drop_while}
 use Rattle.awk_text.specs.declared.fault.Fault.{Fault}
 use Rattle.awk_text.specs.declared.value.Value.{Value}
@@ -28,10 +29,11 @@ pub completed-written : (o : Option (List ℕ)) (piece : List ℕ) (r : Result (
 completed-written o piece (Err e) = refl
 completed-written o piece (Ok text) = ap within (written-written o piece text)
 
-pub pieces_after-drop : (k : ℕ) (text : List ℕ) → pieces_after k text ≡ pieces (drop k text)
-pieces_after-drop zero text = refl
-pieces_after-drop (suc k) [] = refl
-pieces_after-drop (suc k) (b ∷ bs) = pieces_after-drop k bs
+pub pieces_after-drop : (numbers : Numbers) (k : ℕ) (text : List ℕ)
+    → pieces_after numbers k text ≡ pieces numbers (drop k text)
+pieces_after-drop numbers zero text = refl
+pieces_after-drop numbers (suc k) [] = refl
+pieces_after-drop numbers (suc k) (b ∷ bs) = pieces_after-drop numbers k bs
 
 -- ---- bytes before the first `%`
 
@@ -48,42 +50,47 @@ abbrev pub is_percent : ℕ → Bool
 is_percent b = b == 0x25
 
 -- the first n bytes are made first
-abbrev MadeFirst : ℕ → List ℕ → List Value → Type 0
-MadeFirst n text values = made_of text values ≡ (made_of (drop n text) values >>= λ later. Ok (take n text ++ later))
+abbrev MadeFirst : Numbers → ℕ → List ℕ → List Value → Type 0
+MadeFirst numbers n text values = made_of numbers text values
+    ≡ (made_of numbers (drop n text) values >>= λ later. Ok (take n text ++ later))
 
-abbrev BeforePercent : List ℕ → List Value → Type 0
-BeforePercent text values = MadeFirst (position_or_len is_percent text) text values
+abbrev BeforePercent : Numbers → List ℕ → List Value → Type 0
+BeforePercent numbers text values = MadeFirst numbers (position_or_len is_percent text) text values
 
-one_more_first : (b n : ℕ) (bs : List ℕ) (values : List Value) → is_percent b ≡ false → MadeFirst n bs values
-    → MadeFirst (suc n) (b ∷ bs) values
-one_more_first b n bs values h rest = rw h (ap (λ r. r >>= λ text. Ok (b ∷ text)) rest ∙ one_before b (take n bs)
-    (made_of (drop n bs) values))
+one_more_first : (numbers : Numbers) (b n : ℕ) (bs : List ℕ) (values : List Value) → is_percent b ≡ false
+    → MadeFirst numbers n bs values
+    → MadeFirst numbers (suc n) (b ∷ bs) values
+one_more_first numbers b n bs values h rest = rw h (ap (λ r. r >>= λ text. Ok (b ∷ text)) rest
+    ∙ one_before b (take n bs)
+    (made_of numbers (drop n bs) values))
 
-before_by : (here : Bool) (b : ℕ) (bs : List ℕ) (values : List Value) → is_percent b ≡ here → BeforePercent bs values
-    → BeforePercent (b ∷ bs) values
-before_by true b bs values h rest =
-    let P : ℕ → Type 0 = λ n. MadeFirst n (b ∷ bs) values in
+before_by : (numbers : Numbers) (here : Bool) (b : ℕ) (bs : List ℕ) (values : List Value) → is_percent b ≡ here
+    → BeforePercent numbers bs values
+    → BeforePercent numbers (b ∷ bs) values
+before_by numbers true b bs values h rest =
+    let P : ℕ → Type 0 = λ n. MadeFirst numbers n (b ∷ bs) values in
     let none : 0 ≡ position_or_len is_percent (b ∷ bs) = rw h refl in
-    subst P none (none_before (made_of (b ∷ bs) values))
-before_by false b bs values h rest =
-    let P : ℕ → Type 0 = λ n. MadeFirst n (b ∷ bs) values in
+    subst P none (none_before (made_of numbers (b ∷ bs) values))
+before_by numbers false b bs values h rest =
+    let P : ℕ → Type 0 = λ n. MadeFirst numbers n (b ∷ bs) values in
     let n = position_or_len is_percent bs in
     let one : suc n ≡ 1 + n = omega arith in
     let more : suc n ≡ position_or_len is_percent (b ∷ bs) = rw h one in
-    subst P more (one_more_first b n bs values h rest)
+    subst P more (one_more_first numbers b n bs values h rest)
 
-before_percent : (text : List ℕ) (values : List Value) → BeforePercent text values
-before_percent [] values = refl
-before_percent (b ∷ bs) values = before_by (is_percent b) b bs values refl (before_percent bs values)
+before_percent : (numbers : Numbers) (text : List ℕ) (values : List Value) → BeforePercent numbers text values
+before_percent numbers [] values = refl
+before_percent numbers (b ∷ bs) values = before_by numbers (is_percent b) b bs values refl
+    (before_percent numbers bs values)
 
 -- the bytes before the first `%` are made first
-pub plain_step : (o : Option (List ℕ)) (text : List ℕ) (values : List Value) (n : ℕ)
-    → n ≡ position_or_len is_percent text → completed (written o (take n text)) (made_of (drop n text) values)
-    ≡ completed o (made_of text values)
-plain_step o text values n e =
+pub plain_step : (numbers : Numbers) (o : Option (List ℕ)) (text : List ℕ) (values : List Value) (n : ℕ)
+    → n ≡ position_or_len is_percent text → completed (written o (take n text)) (made_of numbers (drop n text) values)
+    ≡ completed o (made_of numbers text values)
+plain_step numbers o text values n e =
     let m = position_or_len is_percent text in
-    rw e (completed-written o (take m text) (made_of (drop m text) values) ∙ ap (completed o)
-    (sym (before_percent text values)))
+    rw e (completed-written o (take m text) (made_of numbers (drop m text) values) ∙ ap (completed o)
+    (sym (before_percent numbers text values)))
 
 -- ---- what is left of a text
 
@@ -123,41 +130,48 @@ tail_is_shorter text = by (tail_rests text)
 
 -- ---- one piece
 
-pub percent_step : (o : Option (List ℕ)) (rest : List ℕ) (values : List Value)
-    → completed (written o (0x25 ∷ [])) (made_of rest values) ≡ completed o (made_of (0x25 ∷ 0x25 ∷ rest) values)
-percent_step o rest values = completed-written o (0x25 ∷ []) (made_of rest values)
+pub percent_step : (numbers : Numbers) (o : Option (List ℕ)) (rest : List ℕ) (values : List Value)
+    → completed (written o (0x25 ∷ [])) (made_of numbers rest values)
+    ≡ completed o (made_of numbers (0x25 ∷ 0x25 ∷ rest) values)
+percent_step numbers o rest values = completed-written o (0x25 ∷ []) (made_of numbers rest values)
 
-directed_at : (text : List ℕ) → is_percent (get_or text 0 0) ≡ false → piece_of text ≡ directed (directive_of text)
-directed_at [] h = refl
-directed_at (b ∷ bs) h = rw h refl
+directed_at : (numbers : Numbers) (text : List ℕ) → is_percent (get_or text 0 0) ≡ false
+    → piece_of numbers text ≡ directed (directive_of numbers text)
+directed_at numbers [] h = refl
+directed_at numbers (b ∷ bs) h = rw h refl
 
 drop-piece_length : (text : List ℕ) → is_percent (get_or text 0 0) ≡ false → drop (piece_length text) text
     ≡ drop 1 (tail_of text)
 drop-piece_length [] h = refl
 drop-piece_length (b ∷ bs) h = rw h (past_rest (b ∷ bs) (tail_of (b ∷ bs)) (tail_rests (b ∷ bs)))
 
-pub directive_step : (text : List ℕ) (values : List Value) → is_percent (get_or text 0 0) ≡ false
-    → made_of (0x25 ∷ text) values ≡ made (directed (directive_of text) ∷ pieces (drop 1 (tail_of text))) values
-directive_step text values h =
-    ap (λ p. made (p ∷ pieces_after (piece_length text) text) values) (directed_at text h)
-    ∙ ap (λ ps. made (directed (directive_of text) ∷ ps) values) (pieces_after-drop (piece_length text) text
-    ∙ ap pieces (drop-piece_length text h))
+pub directive_step : (numbers : Numbers) (text : List ℕ) (values : List Value) → is_percent (get_or text 0 0) ≡ false
+    → made_of numbers (0x25 ∷ text) values ≡ made numbers (directed (directive_of numbers text) ∷ pieces numbers (drop 1
+    (tail_of text))) values
+directive_step numbers text values h =
+    ap (λ p. made numbers (p ∷ pieces_after numbers (piece_length text) text) values) (directed_at numbers text h)
+    ∙ ap (λ ps. made numbers (directed (directive_of numbers text) ∷ ps) values) (pieces_after-drop numbers
+    (piece_length text) text
+    ∙ ap (pieces numbers) (drop-piece_length text h))
 
 pub converted_step : (o o' : Option (List ℕ)) (r later : Result (List ℕ) Fault) → Writes o r o'
     → completed o' later ≡ completed o (r >>= λ field. later >>= λ text. Ok (field ++ text))
 converted_step o o' (Ok field) later h = rw h (completed-written o field later)
 converted_step o o' (Err e) later h = absurd h
 
-pub shown_step : (o o' : Option (List ℕ)) (text rest : List ℕ) (values others : List Value) (d : Directive)
-    (value : Value) → is_percent (get_or text 0 0) ≡ false → directive_of text ≡ Ok d → rest ≡ drop 1 (tail_of text)
-    → values ≡ value ∷ others → Writes o (converted d value) o' → completed o' (made_of rest others)
-    ≡ completed o (made_of (0x25 ∷ text) values)
-shown_step o o' text rest values others d value h ok rest_is values_is wrote =
-    let later = made_of (drop 1 (tail_of text)) others in
+pub shown_step : (numbers : Numbers) (o o' : Option (List ℕ)) (text rest : List ℕ) (values others : List Value)
+    (d : Directive)
+    (value : Value) → is_percent (get_or text 0 0) ≡ false → directive_of numbers text ≡ Ok d
+    → rest ≡ drop 1 (tail_of text)
+    → values ≡ value ∷ others → Writes o (converted numbers d value) o' → completed o' (made_of numbers rest others)
+    ≡ completed o (made_of numbers (0x25 ∷ text) values)
+shown_step numbers o o' text rest values others d value h ok rest_is values_is wrote =
+    let later = made_of numbers (drop 1 (tail_of text)) others in
     rw rest_is (rw values_is (
-    converted_step o o' (converted d value) later wrote
-    ∙ ap (λ r. completed o (made (directed r ∷ pieces (drop 1 (tail_of text))) (value ∷ others))) (sym ok)
-    ∙ ap (completed o) (sym (directive_step text (value ∷ others) h))))
+    converted_step o o' (converted numbers d value) later wrote
+    ∙ ap (λ r. completed o (made numbers (directed r ∷ pieces numbers (drop 1 (tail_of text))) (value ∷ others)))
+    (sym ok)
+    ∙ ap (completed o) (sym (directive_step numbers text (value ∷ others) h))))
 
 -- what the first `%` begins
 pub percent_at : (text : List ℕ) (n : ℕ) → n ≡ position_or_len is_percent text → 0 < length (drop n text)
@@ -168,41 +182,50 @@ percent_at text n e some =
     let here : get_or text n 0 ≡ 0x25 = eqb-true (get_or text n 0) 0x25 passes in
     drop_more text n 0 within ∙ ap (λ b. b ∷ drop (n + 1) text) here ∙ ap (λ bs. 0x25 ∷ bs) (sym (drop-drop 1 n text))
 
-pub percent_shown : (o o' : Option (List ℕ)) (text rest : List ℕ) (values : List Value) → is_percent (get_or text 0 0)
-    ≡ true → rest ≡ drop 1 text → o' ≡ written o (0x25 ∷ []) → completed o' (made_of rest values)
-    ≡ completed o (made_of (0x25 ∷ text) values)
-percent_shown o o' [] rest values h rest_is wrote = absurd (false≢true h)
-percent_shown o o' (b ∷ bs) rest values h rest_is wrote =
-    rw wrote (rw rest_is (percent_step o bs values ∙ ap (λ x. completed o (made_of (0x25 ∷ x ∷ bs) values))
+pub percent_shown : (numbers : Numbers) (o o' : Option (List ℕ)) (text rest : List ℕ) (values : List Value)
+    → is_percent (get_or text 0 0)
+    ≡ true → rest ≡ drop 1 text → o' ≡ written o (0x25 ∷ []) → completed o' (made_of numbers rest values)
+    ≡ completed o (made_of numbers (0x25 ∷ text) values)
+percent_shown numbers o o' [] rest values h rest_is wrote = absurd (false≢true h)
+percent_shown numbers o o' (b ∷ bs) rest values h rest_is wrote =
+    rw wrote (rw rest_is (percent_step numbers o bs values ∙ ap (λ x. completed o (made_of numbers
+    (0x25 ∷ x ∷ bs) values))
     (sym (eqb-true b 0x25 h))))
 
 -- ---- what the loop does in a turn
 
-made_of_inner : (text back inner : List ℕ) (values : List Value) (n : ℕ) → n ≡ position_or_len is_percent text
-    → back ≡ drop n text → 0 < length back → inner ≡ drop 1 back → made_of (0x25 ∷ inner) values
-    ≡ made_of (drop n text) values
-made_of_inner text back inner values n e back_is some inner_is =
+made_of_inner : (numbers : Numbers) (text back inner : List ℕ) (values : List Value) (n : ℕ)
+    → n ≡ position_or_len is_percent text
+    → back ≡ drop n text → 0 < length back → inner ≡ drop 1 back → made_of numbers (0x25 ∷ inner) values
+    ≡ made_of numbers (drop n text) values
+made_of_inner numbers text back inner values n e back_is some inner_is =
     let some' : 0 < length (drop n text) = omega (arith, some, ap length back_is) in
-    ap (λ t. made_of t values) (ap (λ t. 0x25 ∷ t) (inner_is ∙ ap (drop 1) back_is) ∙ sym (percent_at text n e some'))
+    ap (λ t. made_of numbers t values) (ap (λ t. 0x25 ∷ t) (inner_is ∙ ap (drop 1) back_is)
+    ∙ sym (percent_at text n e some'))
 
-pub next_step : (o o1 o2 : Option (List ℕ)) (text front back inner rest : List ℕ) (values others : List Value) (n : ℕ)
+pub next_step : (numbers : Numbers) (o o1 o2 : Option (List ℕ)) (text front back inner rest : List ℕ)
+    (values others : List Value) (n : ℕ)
     (whole : Result (List ℕ) Fault) → n ≡ position_or_len is_percent text → front ≡ take n text → back ≡ drop n text
-    → 0 < length back → inner ≡ drop 1 back → o1 ≡ written o front → completed o2 (made_of rest others) ≡ completed o1
-    (made_of (0x25 ∷ inner) values) → completed o (made_of text values) ≡ whole → completed o2 (made_of rest others)
+    → 0 < length back → inner ≡ drop 1 back → o1 ≡ written o front
+    → completed o2 (made_of numbers rest others) ≡ completed o1
+    (made_of numbers (0x25 ∷ inner) values) → completed o (made_of numbers text values) ≡ whole
+    → completed o2 (made_of numbers rest others)
     ≡ whole
-next_step o o1 o2 text front back inner rest values others n whole e front_is back_is some inner_is wrote shown so_far =
+next_step numbers o o1 o2 text front back inner rest values others n whole e front_is back_is some inner_is wrote
+    shown so_far =
     shown
-    ∙ ap (completed o1) (made_of_inner text back inner values n e back_is some inner_is)
-    ∙ ap (λ x. completed x (made_of (drop n text) values)) (wrote ∙ ap (written o) front_is)
-    ∙ plain_step o text values n e
+    ∙ ap (completed o1) (made_of_inner numbers text back inner values n e back_is some inner_is)
+    ∙ ap (λ x. completed x (made_of numbers (drop n text) values)) (wrote ∙ ap (written o) front_is)
+    ∙ plain_step numbers o text values n e
     ∙ so_far
 
-pub next_fault : (o : Option (List ℕ)) (text back inner : List ℕ) (values : List Value) (n : ℕ)
+pub next_fault : (numbers : Numbers) (o : Option (List ℕ)) (text back inner : List ℕ) (values : List Value) (n : ℕ)
     (whole : Result (List ℕ) Fault) (fault : Fault) → n ≡ position_or_len is_percent text → back ≡ drop n text
-    → 0 < length back → inner ≡ drop 1 back → made_of (0x25 ∷ inner) values ≡ Err fault
-    → completed o (made_of text values) ≡ whole → whole ≡ Err fault
-next_fault o text back inner values n whole fault e back_is some inner_is failed so_far =
+    → 0 < length back → inner ≡ drop 1 back → made_of numbers (0x25 ∷ inner) values ≡ Err fault
+    → completed o (made_of numbers text values) ≡ whole → whole ≡ Err fault
+next_fault numbers o text back inner values n whole fault e back_is some inner_is failed so_far =
     sym so_far
-    ∙ sym (plain_step o text values n e)
-    ∙ ap (completed (written o (take n text))) (sym (made_of_inner text back inner values n e back_is some inner_is)
+    ∙ sym (plain_step numbers o text values n e)
+    ∙ ap (completed (written o (take n text))) (sym (made_of_inner numbers text back inner values n e back_is some
+    inner_is)
     ∙ failed)

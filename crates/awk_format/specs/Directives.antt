@@ -5,12 +5,16 @@ use Rattle.std.specs.Prelude.{if◌then◌else◌}
 use Rattle.std.specs.Char.{is_ascii_digit}
 use Rattle.std.specs.List.{list_any, take_while}
 use Rattle.std.specs.Str.Parse.{digits_value}
+use Rattle.awk_numbers.specs.declared.number.Numbers.{Numbers}
+use Rattle.awk_numbers.specs.declared.number.Numbers.TheVariants as profile
 use Rattle.awk_text.specs.Numerals.{drop_while}
 use Rattle.awk_text.specs.declared.fault.Fault.{Fault}
 use Rattle.awk_text.specs.declared.fault.Fault.TheVariants.{Format}
 use Rattle.awk_format.specs.declared.directive.Conversion.{Conversion}
 use Rattle.awk_format.specs.declared.directive.Conversion.TheVariants.{Signed, Unsigned, Octal, LowerHex, UpperHex}
-use Rattle.awk_format.specs.declared.directive.Conversion.TheVariants.{Text, Byte}
+use Rattle.awk_format.specs.declared.directive.Conversion.TheVariants.{Text, Byte, Fixed}
+use Rattle.awk_format.specs.declared.directive.Conversion.TheVariants.{LowerExponential, UpperExponential}
+use Rattle.awk_format.specs.declared.directive.Conversion.TheVariants.{LowerGeneral, UpperGeneral}
 use Rattle.awk_format.specs.declared.directive.Directive.{Directive}
 use Rattle.awk_format.specs.declared.directive.Flags.{Flags}
 
@@ -55,16 +59,28 @@ abbrev pub after_precision : List ℕ → List ℕ
 after_precision [] = []
 after_precision (b ∷ bs) = if b == 0x2E then drop_while is_ascii_digit bs else b ∷ bs
 
-abbrev pub conversion_of : ℕ → Result Conversion Fault
-conversion_of b =
+-- those of whole numbers and texts
+abbrev pub whole_conversion : ℕ → Result Conversion Fault
+whole_conversion b =
     if b == 0x64 || b == 0x69 then Ok Signed else (if b == 0x75 then Ok Unsigned else (if b == 0x6F then Ok Octal else (
     if b == 0x78 then Ok LowerHex else (if b == 0x58 then Ok UpperHex else (if b == 0x73 then Ok Text else (
     if b == 0x63 then Ok Byte else Err Format))))))
 
+-- and those of numbers with a fraction
+abbrev pub double_conversion : ℕ → Result Conversion Fault
+double_conversion b =
+    if b == 0x66 || b == 0x46 then Ok Fixed else (if b == 0x65 then Ok LowerExponential else (
+    if b == 0x45 then Ok UpperExponential else (if b == 0x67 then Ok LowerGeneral else (
+    if b == 0x47 then Ok UpperGeneral else whole_conversion b))))
+
+abbrev pub conversion_of : Numbers → ℕ → Result Conversion Fault
+conversion_of profile.Whole b = whole_conversion b
+conversion_of profile.Double b = double_conversion b
+
 -- the conversion specifier that the text begins with
-abbrev pub specifier_of : List ℕ → Result Conversion Fault
-specifier_of [] = Err Format
-specifier_of (b ∷ bs) = conversion_of b
+abbrev pub specifier_of : Numbers → List ℕ → Result Conversion Fault
+specifier_of numbers [] = Err Format
+specifier_of numbers (b ∷ bs) = conversion_of numbers b
 
 -- what is left of a text after its flags, after its width, and after its precision
 abbrev pub after_flags : List ℕ → List ℕ
@@ -77,11 +93,11 @@ abbrev pub tail_of : List ℕ → List ℕ
 tail_of text = after_precision (after_width text)
 
 -- the conversion specification whose `%` stands before this text
-abbrev pub directive_of : List ℕ → Result Directive Fault
-directive_of text = do
+abbrev pub directive_of : Numbers → List ℕ → Result Directive Fault
+directive_of numbers text = do
   width ← columns_of (after_flags text)
   precision ← precision_of (after_width text)
-  conversion ← specifier_of (tail_of text)
+  conversion ← specifier_of numbers (tail_of text)
   Ok (record {
     flags = flags_of (take_while is_flag text);
     width = width;

@@ -1,20 +1,26 @@
 // Values as conversion specifications show them.
-ghost use Rattle.std.specs.Prelude.{◌≡◌, ◌++◌, ◌-◌, ◌⊎◌, [], false, length, replicate, OnOk, IfErr};
-ghost use Rattle.awk_format.specs.Fields.{character, code_of, converted, cut, field, hex_field, number_field};
-ghost use Rattle.awk_format.specs.Fields.{octal_field, signed_field, unsigned_field};
+ghost use Rattle.std.specs.Prelude.{◌≡◌, ◌+◌, ◌++◌, ◌-◌, ◌⊎◌, [], false, length, map, replicate, OnOk, IfErr};
+ghost use Rattle.std.specs.Int.Digits.{digits_of};
+ghost use Rattle.awk_format.specs.Fields.{bits, character, code_of, converted, cut, field, hex_field, least_digits};
+ghost use Rattle.awk_format.specs.Fields.{number_field, octal_field, sign_text, signed_field, unsigned_field};
 ghost use Rattle.awk_format.specs.Written.{written, Writes};
 
 use crate::digits::{MOST_DIGITS, digits};
-use crate::directive::{Conversion, Directive};
+use crate::directive::{Conversion, Directive, Flags};
 use crate::output::Output;
+use crate::reals::{push_exponential, push_fixed, push_general, push_integral};
+use awk_numbers::number::{Number, Numbers};
+use awk_numbers::shown::bits_of;
 use awk_text::Memory;
+use awk_text::arithmetic::clamped;
+use awk_text::buffer::Buffer;
 use awk_text::fault::Fault;
-use awk_text::numeral::looks_numeric;
+use awk_text::numeral::looks_in;
 use awk_text::value::{Value, number_of, text_in};
-use itoa::Buffer;
+use std::alloc::Global;
 
 /// Adds a field: the sign or prefix, zeros, and the rest, filled to the width.
-fn push_field(
+pub(crate) fn push_field(
     out: &mut Output,
     directive: &Directive,
     zero_fill: bool,
@@ -70,44 +76,79 @@ fn push_number(
     )
 }
 
-fn push_signed(out: &mut Output, directive: &Directive, number: i64) -> Result<(), Memory>
-    ensures { OnOk result (out.new ≡ written out.old (signed_field directive.now number)) }
+/// What stands before a number that has a minus or none.
+pub(crate) fn sign_text(flags: Flags, minus: bool) -> &'static [u8]
+    ensures { result.now ≡ sign_text flags minus }
 {
-    let lead: &[u8] = if number < 0 {
+    if minus {
         b"-"
-    } else if directive.flags.plus {
+    } else if flags.plus {
         b"+"
-    } else if directive.flags.space {
+    } else if flags.space {
         b" "
     } else {
         &[]
-    };
-    let mut buffer = Buffer::new();
-    let size = number.unsigned_abs();
-    let shown = if size == 0 {
-        &[]
-    } else {
-        buffer.format(size).as_bytes()
-    };
+    }
+}
+
+fn least_digits(directive: &Directive) -> usize
+    ensures { result ≡ least_digits directive.now }
+{
+    usize::from(directive.precision.unwrap_or(1))
+}
+
+/// Adds the field of a whole number that has a minus or none, of its digits, which are none for 0.
+pub(crate) fn push_digits(
+    out: &mut Output,
+    directive: &Directive,
+    minus: bool,
+    shown: &[u8],
+) -> Result<(), Memory>
+    ensures { OnOk result (out.new ≡ written out.old (number_field directive.now (sign_text directive.now.flags minus)
+        (replicate (least_digits directive.now - length shown.now) 48 ++ shown.now))) }
+{
     push_number(
         out,
         directive,
-        lead,
-        directive.precision.unwrap_or(1),
+        sign_text(directive.flags, minus),
+        least_digits(directive),
         shown,
     )
+}
+
+/// The digits of a number, none for 0. They lie in the buffer.
+fn own_digits(buffer: &mut itoa::Buffer, number: u64) -> &[u8]
+    ensures { result.now ≡ map (λ d. 48 + d) (digits_of 10 number) }
+{
+    if number == 0 {
+        &[]
+    } else {
+        buffer.format(number).as_bytes()
+    }
+}
+
+pub(crate) fn push_signed(
+    out: &mut Output,
+    directive: &Directive,
+    number: i64,
+) -> Result<(), Memory>
+    ensures { OnOk result (out.new ≡ written out.old (signed_field directive.now number)) }
+{
+    let mut buffer = itoa::Buffer::new();
+    let shown = own_digits(&mut buffer, number.unsigned_abs());
+    push_digits(out, directive, number < 0, shown)
 }
 
 fn push_unsigned(out: &mut Output, directive: &Directive, bits: u64) -> Result<(), Memory>
     ensures { OnOk result (out.new ≡ written out.old (unsigned_field directive.now bits)) }
 {
-    let mut buffer = Buffer::new();
+    let mut buffer = itoa::Buffer::new();
     let shown = if bits == 0 {
         &[]
     } else {
         buffer.format(bits).as_bytes()
     };
-    push_number(out, directive, &[], directive.precision.unwrap_or(1), shown)
+    push_number(out, directive, &[], least_digits(directive), shown)
 }
 
 fn push_octal(out: &mut Output, directive: &Directive, bits: u64) -> Result<(), Memory>
@@ -119,7 +160,7 @@ fn push_octal(out: &mut Output, directive: &Directive, bits: u64) -> Result<(), 
     } else {
         digits(&mut buffer, 8, false, bits)
     };
-    let mut least = directive.precision.unwrap_or(1);
+    let mut least = least_digits(directive);
     if directive.flags.alternate {
         least = least.max(shown.len() + 1);
     }
@@ -142,13 +183,7 @@ fn push_hex(out: &mut Output, directive: &Directive, upper: bool, bits: u64) -> 
     } else {
         b"0x"
     };
-    push_number(
-        out,
-        directive,
-        lead,
-        directive.precision.unwrap_or(1),
-        shown,
-    )
+    push_number(out, directive, lead, least_digits(directive), shown)
 }
 
 fn push_text(out: &mut Output, directive: &Directive, text: &[u8]) -> Result<(), Memory>
@@ -157,30 +192,36 @@ fn push_text(out: &mut Output, directive: &Directive, text: &[u8]) -> Result<(),
     push_field(out, directive, false, &[], 0, text)
 }
 
-fn cut(text: &[u8], precision: Option<usize>) -> &[u8]
+fn cut(text: &[u8], precision: Option<u16>) -> &[u8]
     ensures { result.now ≡ cut precision text.now }
 {
     match precision {
-        Some(most) => &text[..text.len().min(most)],
+        Some(most) => &text[..text.len().min(usize::from(most))],
         None => text,
     }
 }
 
 /// The number of a value that `c` shows as a byte.
-fn code_of(value: &Value) -> Option<i64>
-    ensures { result ≡ code_of value.now }
+fn code_of(numbers: Numbers, value: &Value) -> Option<i64>
+    ensures { result ≡ code_of numbers value.now }
 {
     match value {
         Value::Num(number) => Some(*number),
-        Value::Input(text) => looks_numeric(text.bytes()),
+        Value::Real(number) => Some(clamped(Number::Real(*number))),
+        Value::Input(text) => Some(clamped(looks_in(numbers, text.bytes())?)),
         Value::Unset | Value::Text(_) => None,
     }
 }
 
-fn push_byte(out: &mut Output, directive: &Directive, value: &Value) -> Result<(), Memory>
-    ensures { OnOk result (out.new ≡ written out.old (field directive.now false [] (character value.now))) }
+fn push_byte(
+    out: &mut Output,
+    numbers: Numbers,
+    directive: &Directive,
+    value: &Value,
+) -> Result<(), Memory>
+    ensures { OnOk result (out.new ≡ written out.old (field directive.now false [] (character numbers value.now))) }
 {
-    match code_of(value) {
+    match code_of(numbers, value) {
         Some(number) => push_text(out, directive, &[number.rem_euclid(256) as u8]),
         None => {
             let mut buffer = Buffer::new();
@@ -189,20 +230,35 @@ fn push_byte(out: &mut Output, directive: &Directive, value: &Value) -> Result<(
     }
 }
 
+/// The number of a value without its fraction, as 64 bits.
+///
+/// Fails with `Fault::OutOfRange` where it is outside of -2^63 to 2^64 - 1.
+fn bits(numbers: Numbers, value: &Value) -> Result<u64, Fault>
+    ensures { result ≡ bits numbers value.now }
+{
+    Ok(bits_of(number_of(numbers, value)?)?)
+}
+
 /// Adds the value as the conversion specification shows it.
 ///
 /// Fails with `Fault::OutOfRange` where a number is wanted and the value's is out of range, and
 /// with `Fault::Memory` where memory is refused.
-pub fn convert(out: &mut Output, directive: &Directive, value: &Value) -> Result<(), Fault>
-    ensures ok { OnOk result (Writes out.old (converted directive.now value.now) out.new) }
-    ensures err { IfErr result (λ e. (e ≡ Fault.Memory) ⊎ (converted directive.now value.now ≡ Err e)) }
+pub fn convert(
+    alloc: Global,
+    out: &mut Output,
+    numbers: Numbers,
+    directive: &Directive,
+    value: &Value,
+) -> Result<(), Fault>
+    ensures ok { OnOk result (Writes out.old (converted numbers directive.now value.now) out.new) }
+    ensures err { IfErr result (λ e. (e ≡ Fault.Memory) ⊎ (converted numbers directive.now value.now ≡ Err e)) }
 {
     match directive.conversion {
-        Conversion::Signed => push_signed(out, directive, number_of(value)?)?,
-        Conversion::Unsigned => push_unsigned(out, directive, number_of(value)?.cast_unsigned())?,
-        Conversion::Octal => push_octal(out, directive, number_of(value)?.cast_unsigned())?,
-        Conversion::LowerHex => push_hex(out, directive, false, number_of(value)?.cast_unsigned())?,
-        Conversion::UpperHex => push_hex(out, directive, true, number_of(value)?.cast_unsigned())?,
+        Conversion::Signed => push_integral(alloc, out, directive, number_of(numbers, value)?)?,
+        Conversion::Unsigned => push_unsigned(out, directive, bits(numbers, value)?)?,
+        Conversion::Octal => push_octal(out, directive, bits(numbers, value)?)?,
+        Conversion::LowerHex => push_hex(out, directive, false, bits(numbers, value)?)?,
+        Conversion::UpperHex => push_hex(out, directive, true, bits(numbers, value)?)?,
         Conversion::Text => {
             let mut buffer = Buffer::new();
             push_text(
@@ -211,7 +267,28 @@ pub fn convert(out: &mut Output, directive: &Directive, value: &Value) -> Result
                 cut(text_in(value, &mut buffer), directive.precision),
             )?;
         }
-        Conversion::Byte => push_byte(out, directive, value)?,
+        Conversion::Byte => push_byte(out, numbers, directive, value)?,
+        Conversion::Fixed => push_fixed(alloc, out, directive, number_of(numbers, value)?)?,
+        Conversion::LowerExponential => {
+            push_exponential(alloc, out, directive, b'e', number_of(numbers, value)?)?;
+        }
+        Conversion::UpperExponential => {
+            push_exponential(alloc, out, directive, b'E', number_of(numbers, value)?)?;
+        }
+        Conversion::LowerGeneral => push_general(
+            alloc,
+            out,
+            directive,
+            b'e',
+            number_of(numbers, value)?,
+        )?,
+        Conversion::UpperGeneral => push_general(
+            alloc,
+            out,
+            directive,
+            b'E',
+            number_of(numbers, value)?,
+        )?,
     }
     Ok(())
 }

@@ -4,13 +4,14 @@ ghost use Rattle.std.specs.Char.{is_ascii_digit};
 ghost use Rattle.std.specs.List.{prefix_len};
 ghost use Rattle.awk_text.specs.Numerals.{drop_while};
 ghost use Rattle.awk_format.specs.Directives.{columns_of, conversion_of, directive_of, flags_of, is_flag, precision_of};
-ghost use Rattle.awk_format.specs.Directives.{tail_of, after_precision, with_flag};
+ghost use Rattle.awk_format.specs.Directives.{after_precision, double_conversion, tail_of, whole_conversion, with_flag};
 
+use awk_numbers::number::Numbers;
 use awk_text::fault::Fault;
 use awk_text::numeral::leading_digits;
 
 /// The greatest width and the greatest precision.
-const MOST_COLUMNS: u64 = 65_535;
+const MOST_COLUMNS: u64 = u16::MAX as u64;
 
 /// The flags of a conversion specification.
 #[derive(Clone, Copy, PartialEq, Eq, Drop)]
@@ -66,6 +67,16 @@ pub enum Conversion {
     Text,
     /// `c`.
     Byte,
+    /// `f` and `F`.
+    Fixed,
+    /// `e`.
+    LowerExponential,
+    /// `E`.
+    UpperExponential,
+    /// `g`.
+    LowerGeneral,
+    /// `G`.
+    UpperGeneral,
 }
 
 /// A conversion specification. POSIX.1-2017, XBD 5, "File Format Notation".
@@ -74,7 +85,7 @@ pub struct Directive {
     pub flags: Flags,
     /// The least number of bytes of the field.
     pub width: usize,
-    pub precision: Option<usize>,
+    pub precision: Option<u16>,
     pub conversion: Conversion,
 }
 
@@ -115,7 +126,7 @@ fn flags_of(run: &[u8]) -> Flags
 /// The width or precision that the text begins with, 0 where it has no digit, and what follows.
 ///
 /// Fails with `Fault::Format` where it is over `MOST_COLUMNS`.
-fn columns(text: &[u8]) -> Result<(usize, &[u8]), Fault>
+fn columns(text: &[u8]) -> Result<(u16, &[u8]), Fault>
     ensures ok { IfOk result (λ r. columns_of text.now ≡ Ok r.0) }
     ensures rest { IfOk result (λ r. r.1.now ≡ drop_while is_ascii_digit text.now) }
     ensures err { IfErr result (λ e. columns_of text.now ≡ Err e) }
@@ -124,13 +135,13 @@ fn columns(text: &[u8]) -> Result<(usize, &[u8]), Fault>
     if MOST_COLUMNS < value {
         return Err(Fault::Format);
     }
-    Ok((value as usize, &text[count..]))
+    Ok((value as u16, &text[count..]))
 }
 
 /// The precision that the text begins with, where a `.` stands there, and what follows.
 ///
 /// Fails with `Fault::Format` where it is over `MOST_COLUMNS`.
-fn read_precision(text: &[u8]) -> Result<(Option<usize>, &[u8]), Fault>
+fn read_precision(text: &[u8]) -> Result<(Option<u16>, &[u8]), Fault>
     ensures ok { IfOk result (λ r. precision_of text.now ≡ Ok r.0) }
     ensures rest { IfOk result (λ r. r.1.now ≡ after_precision text.now) }
     ensures err { IfErr result (λ e. precision_of text.now ≡ Err e) }
@@ -144,8 +155,8 @@ fn read_precision(text: &[u8]) -> Result<(Option<usize>, &[u8]), Fault>
     }
 }
 
-fn conversion_of(b: u8) -> Result<Conversion, Fault>
-    ensures { result ≡ conversion_of b }
+fn whole_conversion(b: u8) -> Result<Conversion, Fault>
+    ensures { result ≡ whole_conversion b }
 {
     match b {
         b'd' | b'i' => Ok(Conversion::Signed),
@@ -159,13 +170,36 @@ fn conversion_of(b: u8) -> Result<Conversion, Fault>
     }
 }
 
-/// The conversion specification whose `%` stands before this text, and what follows it.
+fn double_conversion(b: u8) -> Result<Conversion, Fault>
+    ensures { result ≡ double_conversion b }
+{
+    match b {
+        b'f' | b'F' => Ok(Conversion::Fixed),
+        b'e' => Ok(Conversion::LowerExponential),
+        b'E' => Ok(Conversion::UpperExponential),
+        b'g' => Ok(Conversion::LowerGeneral),
+        b'G' => Ok(Conversion::UpperGeneral),
+        _ => whole_conversion(b),
+    }
+}
+
+/// Fails with `Fault::Format` where the byte is no conversion specifier of the profile.
+fn conversion_of(numbers: Numbers, b: u8) -> Result<Conversion, Fault>
+    ensures { result ≡ conversion_of numbers b }
+{
+    match numbers {
+        Numbers::Whole => whole_conversion(b),
+        Numbers::Double => double_conversion(b),
+    }
+}
+
+/// The conversion specification of the profile whose `%` stands before this text, and what follows it.
 ///
 /// Fails with `Fault::Format` where there is none.
-pub fn read_directive(text: &[u8]) -> Result<(Directive, &[u8]), Fault>
-    ensures ok { IfOk result (λ r. directive_of text.now ≡ Ok r.0) }
+pub fn read_directive(numbers: Numbers, text: &[u8]) -> Result<(Directive, &[u8]), Fault>
+    ensures ok { IfOk result (λ r. directive_of numbers text.now ≡ Ok r.0) }
     ensures rest { IfOk result (λ r. r.1.now ≡ drop 1 (tail_of text.now)) }
-    ensures err { IfErr result (λ e. directive_of text.now ≡ Err e) }
+    ensures err { IfErr result (λ e. directive_of numbers text.now ≡ Err e) }
 {
     let (run, after_flags) = text.split_at(count_flags(text));
     let flags = flags_of(run);
@@ -174,11 +208,11 @@ pub fn read_directive(text: &[u8]) -> Result<(Directive, &[u8]), Fault>
     let [b, rest @ ..] = tail else {
         return Err(Fault::Format);
     };
-    let conversion = conversion_of(*b)?;
+    let conversion = conversion_of(numbers, *b)?;
     Ok((
         Directive {
             flags,
-            width,
+            width: usize::from(width),
             precision,
             conversion,
         },

@@ -9,10 +9,12 @@ mod convert;
 mod digits;
 mod directive;
 mod output;
+mod reals;
 
 use crate::convert::convert;
 use crate::directive::read_directive;
 use crate::output::Output;
+use awk_numbers::number::Numbers;
 use awk_text::fault::Fault;
 use awk_text::value::Value;
 use std::alloc::Global;
@@ -44,25 +46,27 @@ fn begins_with_percent(text: &[u8]) -> bool
 /// Adds what the piece makes whose `%` stands before this text, and gives what is left of the text
 /// and of the values.
 fn show_piece<'a>(
+    alloc: Global,
     out: &mut Output,
+    numbers: Numbers,
     text: &'a [u8],
     values: &'a [Value],
 ) -> Result<(&'a [u8], &'a [Value]), Fault>
-    ensures ok { IfOk result (λ r. completed out.new (made_of r.0.now r.1.now)
-        ≡ completed out.old (made_of (0x25 ∷ text.now) values.now)) }
+    ensures ok { IfOk result (λ r. completed out.new (made_of numbers r.0.now r.1.now)
+        ≡ completed out.old (made_of numbers (0x25 ∷ text.now) values.now)) }
     ensures shorter { IfOk result (λ r. length r.0.now ≤ length text.now) }
     ensures err { IfErr result (λ e. (e ≡ Fault.Memory)
-        ⊎ (made_of (0x25 ∷ text.now) values.now ≡ Err e)) }
+        ⊎ (made_of numbers (0x25 ∷ text.now) values.now ≡ Err e)) }
 {
     if begins_with_percent(text) {
         out.push(b"%")?;
         return Ok((&text[1..], values));
     }
-    let (directive, rest) = read_directive(text)?;
+    let (directive, rest) = read_directive(numbers, text)?;
     let [value, others @ ..] = values else {
         return Err(Fault::Format);
     };
-    convert(out, &directive, value)?;
+    convert(alloc, out, numbers, &directive, value)?;
     Ok((rest, others))
 }
 
@@ -75,9 +79,14 @@ fn show_piece<'a>(
 /// value whose number is wanted and out of range. Where there is none of these it fails with
 /// `Fault::TextTooLong` where the text has more than `MOST_BYTES` bytes. `Fault::Memory` comes
 /// where memory is refused.
-pub fn format(alloc: Global, format: &[u8], values: &[Value]) -> Result<Vec<u8>, Fault>
-    ensures ok { IfOk result (λ text. formatted format.now values.now ≡ Ok text.items) }
-    ensures err { IfErr result (λ e. (e ≡ Fault.Memory) ⊎ (formatted format.now values.now ≡ Err e)) }
+pub fn format(
+    alloc: Global,
+    numbers: Numbers,
+    format: &[u8],
+    values: &[Value],
+) -> Result<Vec<u8>, Fault>
+    ensures ok { IfOk result (λ text. formatted numbers format.now values.now ≡ Ok text.items) }
+    ensures err { IfErr result (λ e. (e ≡ Fault.Memory) ⊎ (formatted numbers format.now values.now ≡ Err e)) }
 {
     let room = format
         .len()
@@ -90,7 +99,7 @@ pub fn format(alloc: Global, format: &[u8], values: &[Value]) -> Result<Vec<u8>,
         out.push(plain)?;
         rest = after;
         if let [_, text @ ..] = after {
-            let (text, others) = show_piece(&mut out, text, values)?;
+            let (text, others) = show_piece(alloc, &mut out, numbers, text, values)?;
             rest = text;
             values = others;
         }
