@@ -2,9 +2,10 @@
 
 use crate::context::Printing;
 use crate::page::{Page, put};
+use awk_numbers::number::Number;
 use awk_program::Variable;
+use awk_text::buffer::Buffer;
 use awk_text::place::Place;
-use itoa::Buffer;
 
 pub fn text(text: &str, out: &mut Page) {
     put(text.as_bytes(), out)
@@ -32,20 +33,20 @@ pub fn close(out: &mut Page) {
     put(b")", out)
 }
 
-pub fn number(n: i64, out: &mut Page) {
+pub fn number(n: Number, out: &mut Page) {
     let mut buffer = Buffer::new();
-    word(buffer.format(n).as_bytes(), out)
+    word(buffer.text(n), out)
 }
 
 /// The number of a function.
 pub fn ordinal(n: usize, out: &mut Page) {
-    let mut buffer = Buffer::new();
+    let mut buffer = itoa::Buffer::new();
     word(buffer.format(n).as_bytes(), out)
 }
 
 /// `line:column`
 pub fn place(at: Place, out: &mut Page) {
-    let mut buffer = Buffer::new();
+    let mut buffer = itoa::Buffer::new();
     word(buffer.format(at.line).as_bytes(), out);
     put(b":", out);
     put(buffer.format(at.column).as_bytes(), out)
@@ -83,7 +84,7 @@ pub fn variable(context: Printing<'_>, v: Variable, out: &mut Page) {
         },
         Variable::Parameter(n) => {
             put(b" #", out);
-            put(Buffer::new().format(n).as_bytes(), out)
+            put(itoa::Buffer::new().format(n).as_bytes(), out)
         }
     }
 }

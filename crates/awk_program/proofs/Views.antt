@@ -1,5 +1,6 @@
 -- How the views of a program meet each variant.
-use Rattle.std.proofs.Common.{◌≡◌, ℕ, ℤ, List, [], ◌∷◌, map, Option, option_map, ap, sym, ◌∙◌, refl}
+use Rattle.std.proofs.Common.{◌≡◌, ℕ, List, [], ◌∷◌, map, Option, option_map, ap, sym, ◌∙◌, refl}
+use Rattle.awk_numbers.specs.declared.number.Number.{Number}
 use Rattle.awk_text.specs.declared.place.Place.{Place}
 use Rattle.awk_program.specs.declared.variables.Variable as code
 use Rattle.awk_program.specs.declared.builtins.Builtin.{Builtin}
@@ -72,7 +73,7 @@ unfolding piped_target
 pipes_layer t [] = refl
 pipes_layer t (x ∷ xs) = rw (one_piped t x.place x.target, pipes_layer t xs) refl
 
-pub view-Number : (t : Names) (n : ℤ) → view t (e.Number n) ≡ p.number n
+pub view-Number : (t : Names) (n : Number) → view t (e.Number n) ≡ p.number n
 unfolding layer
 view-Number t n = opened t _ _ (e.rolls-Number n)
 

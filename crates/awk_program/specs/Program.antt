@@ -1,6 +1,7 @@
 -- A program as plain data: a variable of the script is its name, a parameter its place among those of
 -- its function, a function its place among the functions, and a constant is what it stands for.
-use Rattle.std.specs.Prelude.{ℕ, ℤ, Bool, List, [], ◌∷◌, Option}
+use Rattle.std.specs.Prelude.{ℕ, Bool, List, [], ◌∷◌, Option}
+use Rattle.awk_numbers.specs.declared.number.Number.{Number}
 use Rattle.awk_text.specs.declared.place.Place.{Place}
 use Rattle.awk_program.specs.declared.builtins.Builtin.{Builtin}
 use Rattle.awk_program.specs.declared.jumps.Jump.{Jump}
@@ -24,7 +25,7 @@ pub data Variable : Type 0 where
 
 mutual
   pub data Expression : Type 0 where
-    number : ℤ → Expression
+    number : Number → Expression
     text : Text → Expression
     pattern : Place → Text → Expression
     read : Reference → Expression

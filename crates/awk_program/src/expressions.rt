@@ -3,6 +3,7 @@
 use crate::builtins::Builtin;
 use crate::operators::{Comparison, Extent, Operator, Sign, Step, StepValue};
 use crate::variables::Variable;
+use awk_numbers::number::Number;
 use awk_text::octets::Octets;
 use awk_text::place::Place;
 use sqlite_items::{Boxed, Items};
@@ -61,7 +62,7 @@ pub enum Argument<E> {
 /// An expression. A chain of one level that groups from the left is one list.
 #[derive(Drop)]
 pub enum Expr {
-    Number(i64),
+    Number(Number),
     Text(Octets),
     /// `$0 ~` an ERE
     Pattern(Place, Octets),
