@@ -48,6 +48,7 @@ nothing = record { events = []; used = 0 }
 
 abbrev pub first_state : Given → State
 first_state g = record {
+  numbers = g.numbers;
   values = values_at_start g.program;
   arrays = arrays_at_start g.program;
   locals = [];

@@ -2,12 +2,14 @@
 -- the function gives.
 use Rattle.std.specs.Prelude.{ℕ, ℤ, ◌+◌, ◌-◌, nat_le, Bool, true, false, if◌then◌else◌, negsuc, List, [], ◌∷◌, length}
 use Rattle.std.specs.Prelude.{drop, get_or, codes, Option, Some, None, Result, Ok}
+use Rattle.awk_numbers.specs.declared.number.Numbers.{Numbers}
 use Rattle.awk_text.specs.declared.place.Place.{Place}
 use Rattle.awk_text.specs.declared.value.Value.{Value}
 use Rattle.awk_text.specs.declared.value.Value.TheVariants as v
 use Rattle.awk_text.specs.declared.fault.Fault.{Fault}
 use Rattle.awk_text.specs.declared.fault.Fault.TheVariants.{TooManyElements}
-use Rattle.awk_text.specs.Values.{text_of, number_of}
+use Rattle.awk_text.specs.Arithmetic.{clamped, truncated}
+use Rattle.awk_text.specs.Values.{text_of, number_of, of_number}
 use Rattle.awk_fields.specs.Separators.{separator, ere}
 use Rattle.awk_format.specs.Directives.{◌>>=◌}
 use Rattle.awk_format.specs.Formatted.{formatted}
@@ -45,28 +47,28 @@ argument vs n = get_or vs n v.Unset
 abbrev pub text_at : List Value → ℕ → Text
 text_at vs n = text_of (argument vs n)
 
-abbrev pub whole_number : Value → Result Value Fault
-whole_number x = number_of x >>= λ n. Ok (v.Num n)
+abbrev pub whole_number : Numbers → Value → Result Value Fault
+whole_number numbers x = number_of numbers x >>= λ n. truncated n >>= λ m. Ok (of_number m)
 
 -- so many bytes, where a count is given
-abbrev pub count_of : List Value → Result (Option ℤ) Fault
-count_of [] = Ok None
-count_of (x ∷ vs) = number_of x >>= λ n. Ok (Some n)
+abbrev pub count_of : Numbers → List Value → Result (Option ℤ) Fault
+count_of numbers [] = Ok None
+count_of numbers (x ∷ vs) = number_of numbers x >>= λ n. Ok (Some (clamped n))
 
-abbrev pub substr_of : List Value → Result Value Fault
-substr_of vs = number_of (argument vs 1) >>= λ from. count_of (drop 2 vs)
-    >>= λ count. Ok (v.Text (substr (text_at vs 0) from count))
+abbrev pub substr_of : Numbers → List Value → Result Value Fault
+substr_of numbers vs = number_of numbers (argument vs 1) >>= λ from. count_of numbers (drop 2 vs)
+    >>= λ count. Ok (v.Text (substr (text_at vs 0) (clamped from) count))
 
 -- the text of a format, which is the first of these, and its values
 abbrev pub first : List Value → Value
 first [] = v.Unset
 first (x ∷ xs) = x
 
-abbrev pub formatted_by : List Value → Result Text Fault
-formatted_by vs = formatted (text_of (first vs)) (drop 1 vs)
+abbrev pub formatted_by : Numbers → List Value → Result Text Fault
+formatted_by numbers vs = formatted numbers (text_of (first vs)) (drop 1 vs)
 
-abbrev pub formatted_text : List Value → Result Value Fault
-formatted_text vs = formatted_by vs >>= λ text. Ok (v.Text text)
+abbrev pub formatted_text : Numbers → List Value → Result Value Fault
+formatted_text numbers vs = formatted_by numbers vs >>= λ text. Ok (v.Text text)
 
 -- ---- what each function comes to, one line a function: a value or its fault, or a task that gives the value
 
@@ -81,10 +83,10 @@ abbrev pub effect : Place → Builtin → List Value → State → Effect
 effect place b.Close vs s = Leaves (Close place (text_at vs 0) None)
 effect place b.Fflush vs s = gives (flush (text_at vs 0) (open_streams s.course.events))
 effect place b.Index vs s = gives (of_count (index (text_at vs 0) (text_at vs 1)))
-effect place b.Int vs s = Gives (whole_number (argument vs 0))
+effect place b.Int vs s = Gives (whole_number s.numbers (argument vs 0))
 effect place b.Length vs s = gives (of_count (length (text_at vs 0)))
-effect place b.Sprintf vs s = Gives (formatted_text vs)
-effect place b.Substr vs s = Gives (substr_of vs)
+effect place b.Sprintf vs s = Gives (formatted_text s.numbers vs)
+effect place b.Substr vs s = Gives (substr_of s.numbers vs)
 effect place b.System vs s = Leaves (Run place (text_at vs 0))
 effect place b.Tolower vs s = gives (v.Text (to_case false (text_at vs 0)))
 effect place b.Toupper vs s = gives (v.Text (to_case true (text_at vs 0)))

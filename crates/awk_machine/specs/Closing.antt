@@ -2,6 +2,7 @@
 -- of opening, but an operand's file; the answer is the first that is not 0, and -1 where nothing was open.
 use Rattle.std.specs.Prelude.{◌&&◌, Bool, true, false, if◌then◌else◌, pos, negsuc, List, [], ◌∷◌, Option, Some, None}
 use Rattle.std.specs.Str.{bytes_eq}
+use Rattle.awk_numbers.specs.declared.number.Numbers.{Numbers}
 use Rattle.awk_text.specs.declared.place.Place.{Place}
 use Rattle.awk_text.specs.declared.value.Value.{Value}
 use Rattle.awk_text.specs.declared.value.Value.TheVariants as v
@@ -27,9 +28,9 @@ shut_answer reply.Done = v.Num (pos 0)
 shut_answer (reply.Status n) = v.Num n
 shut_answer other = v.Num (negsuc 0)
 
-abbrev pub first_answer : Option Value → Value → Value
-first_answer None y = y
-first_answer (Some x) y = if truth x then x else y
+abbrev pub first_answer : Numbers → Option Value → Value → Value
+first_answer numbers None y = y
+first_answer numbers (Some x) y = if truth numbers x then x else y
 
 abbrev pub answer_or : Option Value → Value
 answer_or None = v.Num (negsuc 0)
@@ -39,7 +40,7 @@ abbrev pub close_by : Place → Text → Option Value → Option Stream → Then
 close_by place text so_far None k s = Goes (give (answer_or so_far) k) s
 close_by place text so_far (Some x) k s =
     Asks (want place (Shuts (Named x.class x.text)))
-    (λ r. Do (Close place text (Some (first_answer so_far (shut_answer r)))) ∷ k) s
+    (λ r. Do (Close place text (Some (first_answer s.numbers so_far (shut_answer r)))) ∷ k) s
 
 abbrev pub close : Place → Text → Option Value → Then
 close place text so_far k s = close_by place text so_far (first_stream text (open_streams s.course.events)) k s

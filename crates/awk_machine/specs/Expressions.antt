@@ -1,9 +1,10 @@
 -- What each form of an expression does next, one line a form (POSIX.1-2017 XCU awk, "Expressions in awk").
-use Rattle.std.specs.Prelude.{ℤ, true, false, not, List, [], ◌∷◌, ◌++◌, length}
+use Rattle.std.specs.Prelude.{true, false, not, List, [], ◌∷◌, ◌++◌, length}
+use Rattle.awk_numbers.specs.declared.number.Number.{Number}
 use Rattle.awk_text.specs.declared.place.Place.{Place}
 use Rattle.awk_text.specs.declared.value.Value.{Value}
 use Rattle.awk_text.specs.declared.value.Value.TheVariants as v
-use Rattle.awk_text.specs.Values.{text_of, number_of, truth}
+use Rattle.awk_text.specs.Values.{text_of, number_of, of_number, truth}
 use Rattle.awk_program.specs.Program as p
 use Rattle.awk_program.specs.Program.{Expression, Expressions, Ere, Terms, Joins}
 use Rattle.awk_program.specs.declared.operators.Operator.{Operator}
@@ -30,7 +31,7 @@ step_target (p.variable a) vs k s = answer v.Unset k s
 step_target (p.element place a xs) vs k s =
     each_of (listed xs) (Target_of (p.element place a xs)) (λ vs. keyed place vs (λ text. answer (v.Text text))) vs k s
 step_target (p.field place x) vs k s =
-    unary (value x) (Target_of (p.field place x)) (λ n. deliver place (field_of n)) vs k s
+    unary (value x) (Target_of (p.field place x)) (λ n k s. deliver place (field_of s.numbers n) k s) vs k s
 
 -- `target = value`: the target, and then the value
 abbrev pub assign : Place → p.Reference → Expression → Part → List Value → Then
@@ -41,19 +42,20 @@ abbrev pub change : Place → Operator → p.Reference → Expression → Part �
 change place how r x part [] k s = Goes (spot r ∷ At part [] ∷ k) s
 change place how r x part (at ∷ []) k s = Goes (value x ∷ At part (at ∷ []) ∷ k) s
 change place how r x part (y ∷ at ∷ []) k s = Goes (Do (Get (target r at)) ∷ At part (y ∷ at ∷ []) ∷ k) s
-change place how r x part (old ∷ y ∷ at ∷ vs) k s = granted place (computed how old y) (store (target r at) place) k s
+change place how r x part (old ∷ y ∷ at ∷ vs) k s =
+    granted place (computed s.numbers how old y) (store (target r at) place) k s
 
 -- `++` and `--`: the old number is given, or the new one
-abbrev pub either : StepValue → ℤ → ℤ → Value
-either taken.Before old new = v.Num old
-either taken.Behind old new = v.Num new
+abbrev pub either : StepValue → Number → Number → Value
+either taken.Before old new = of_number old
+either taken.Behind old new = of_number new
 
 abbrev pub step : Place → Step → StepValue → p.Reference → Part → List Value → Then
 step place how which r part [] k s = Goes (spot r ∷ At part [] ∷ k) s
 step place how which r part (at ∷ []) k s = Goes (Do (Get (target r at)) ∷ At part (at ∷ []) ∷ k) s
 step place how which r part (x ∷ at ∷ vs) k s =
-    granted place (number_of x) (λ old. granted place (stepped how old) (λ new k s.
-    Goes (Do (Set (target r at) place (v.Num new)) ∷ Do (Give (either which old new)) ∷ k) s)) k s
+    granted place (number_of s.numbers x) (λ old k s. granted place (stepped s.numbers how old) (λ new k s.
+    Goes (Do (Set (target r at) place (of_number new)) ∷ Do (Give (either which old new)) ∷ k) s) k s) k s
 
 -- ---- chains: each operand is joined to what stands before it, before the next one
 
@@ -62,7 +64,7 @@ terms xs [] k s = Goes k s
 terms p.no_terms (x ∷ vs) k s = Goes (give x k) s
 terms (p.term how place y xs) (x ∷ []) k s = Goes (value y ∷ At (Terms_of (p.term how place y xs)) (x ∷ []) ∷ k) s
 terms (p.term how place y xs) (z ∷ x ∷ vs) k s =
-    granted place (computed how x z) (λ made k s. Goes (At (Terms_of xs) (made ∷ []) ∷ k) s) k s
+    granted place (computed s.numbers how x z) (λ made k s. Goes (At (Terms_of xs) (made ∷ []) ∷ k) s) k s
 
 abbrev pub texts : Joins → List Value → Then
 texts xs [] k s = Goes k s
@@ -73,12 +75,12 @@ texts (p.join place y xs) (z ∷ x ∷ vs) k s =
 
 abbrev pub ands : Expressions → List Value → Then
 ands xs [] k s = Goes k s
-ands p.none (x ∷ vs) k s = Goes (give (of_truth (truth x)) k) s
+ands p.none (x ∷ vs) k s = Goes (give (of_truth (truth s.numbers x)) k) s
 ands (p.more y xs) (x ∷ vs) k s = if_true x (value y ∷ At (Ands_of xs) [] ∷ k) (give (of_truth false) k) s
 
 abbrev pub ors : Expressions → List Value → Then
 ors xs [] k s = Goes k s
-ors p.none (x ∷ vs) k s = Goes (give (of_truth (truth x)) k) s
+ors p.none (x ∷ vs) k s = Goes (give (of_truth (truth s.numbers x)) k) s
 ors (p.more y xs) (x ∷ vs) k s = if_true x (give (of_truth true) k) (value y ∷ At (Ors_of xs) [] ∷ k) s
 
 abbrev pub members : List p.Variable → List Value → Then
@@ -95,18 +97,21 @@ matched place y text pattern k s =
 -- ---- all forms
 
 abbrev pub step_value : Expression → Part → List Value → Then
-step_value (p.number n) part vs k s = answer (v.Num n) k s
+step_value (p.number n) part vs k s = answer (of_number n) k s
 step_value (p.text x) part vs k s = answer (v.Text x) k s
 step_value (p.pattern place x) part vs k s = Goes (Do (Check place x) ∷ Do (Match x s.row.whole) ∷ k) s
 step_value (p.read r) part vs k s = unary (spot r) part (λ at k s. Goes (Do (Get (target r at)) ∷ k) s) vs k s
 step_value (p.assign place r x) part vs k s = assign place r x part vs k s
 step_value (p.change place how r x) part vs k s = change place how r x part vs k s
 step_value (p.step place how which r) part vs k s = step place how which r part vs k s
-step_value (p.not x) part vs k s = unary (value x) part (λ y. answer (of_truth (not (truth y)))) vs k s
-step_value (p.signed place how x) part vs k s = unary (value x) part (λ y. deliver place (signed how y)) vs k s
+step_value (p.not x) part vs k s =
+    unary (value x) part (λ y k s. answer (of_truth (not (truth s.numbers y))) k s) vs k s
+step_value (p.signed place how x) part vs k s =
+    unary (value x) part (λ y k s. deliver place (signed s.numbers how y) k s) vs k s
 step_value (p.chain x xs) part vs k s = Goes (value x ∷ At (Terms_of xs) [] ∷ k) s
 step_value (p.concat x xs) part vs k s = Goes (value x ∷ At (Texts_of xs) [] ∷ k) s
-step_value (p.compare how x y) part vs k s = binary (value x) (value y) part (λ z u. answer (compared how z u)) vs k s
+step_value (p.compare how x y) part vs k s =
+    binary (value x) (value y) part (λ z u k s. answer (compared s.numbers how z u) k s) vs k s
 step_value (p.matched place x y) part vs k s = binary (value x) (source y) part (matched place y) vs k s
 step_value (p.member x as_) part vs k s = Goes (value x ∷ At (Members_of as_) [] ∷ k) s
 step_value (p.group place xs as_) part vs k s =

@@ -37,7 +37,7 @@ abbrev pub deliver : Place → Result Value Fault → Then
 deliver place made k s = granted place made answer k s
 
 abbrev pub if_true : Value → List Piece → List Piece → State → Next
-if_true x k l s = if truth x then Goes k s else Goes l s
+if_true x k l s = if truth s.numbers x then Goes k s else Goes l s
 
 -- ---- one part, or two, from left to right
 

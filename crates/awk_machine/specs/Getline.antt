@@ -2,12 +2,13 @@
 -- the answer is 1; 0 is the end, and -1 a failure.
 use Rattle.std.specs.Prelude.{if◌then◌else◌, pos, negsuc, List, [], ◌∷◌, codes}
 use Rattle.std.specs.Str.{bytes_eq}
+use Rattle.awk_numbers.specs.declared.number.Number.TheVariants.{Whole}
 use Rattle.awk_text.specs.declared.place.Place.{Place}
 use Rattle.awk_text.specs.declared.value.Value.{Value}
 use Rattle.awk_text.specs.declared.value.Value.TheVariants as v
 use Rattle.awk_text.specs.declared.fault.Fault.TheVariants.{TextTooLong}
 use Rattle.awk_text.specs.Arithmetic as on
-use Rattle.awk_text.specs.Values.{text_of, number_of}
+use Rattle.awk_text.specs.Values.{text_of, number_of, of_number}
 use Rattle.awk_fields.specs.Heads.{Head, taken, need_more, done, too_long, head}
 use Rattle.awk_format.specs.Directives.{◌>>=◌}
 use Rattle.box_world.specs.declared.ask.Mode.{Mode}
@@ -70,8 +71,8 @@ fetch_file place text k =
 -- a counter becomes its number plus 1
 abbrev pub count : Place → Text → Then
 count place name k s =
-    granted place (number_of (own_value s name) >>= λ n. on.add n (pos 1)) (λ n k s. Goes k (with_own name (v.Num n) s))
-    k s
+    granted place (number_of s.numbers (own_value s name) >>= λ n. on.add s.numbers n (Whole (pos 1)))
+    (λ n k s. Goes k (with_own name (of_number n) s)) k s
 
 abbrev pub counting : Place → List Text → List Piece → List Piece
 counting place [] k = k

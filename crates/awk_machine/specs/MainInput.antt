@@ -10,7 +10,9 @@ use Rattle.awk_text.specs.declared.value.Value.TheVariants as v
 use Rattle.awk_text.specs.declared.fault.Fault.TheVariants.{TextTooLong}
 use Rattle.awk_text.specs.Escapes.{unescaped}
 use Rattle.awk_text.specs.Quoted.{quoted}
+use Rattle.awk_text.specs.Arithmetic.{whole_of}
 use Rattle.awk_text.specs.Values.{text_of, number_of}
+use Rattle.awk_format.specs.Directives.{◌>>=◌}
 use Rattle.awk_fields.specs.Heads.{Head, taken, need_more, done, too_long}
 use Rattle.awk_program.specs.Slots.{Text}
 use Rattle.awk_program.specs.Program.{global}
@@ -83,7 +85,7 @@ next_operand count k s =
     else Goes k (with_main (record s.main { current = Some (Standard 0) }) s))
 
 abbrev pub operand : Then
-operand k s = granted nowhere (number_of (own_value s (codes "ARGC"))) next_operand k s
+operand k s = granted nowhere (number_of s.numbers (own_value s (codes "ARGC")) >>= whole_of) next_operand k s
 
 abbrev pub assigned : Text → Text → List Piece → Reply → List Piece
 assigned name text k reply.Done = Do (Set (Variable (global name)) nowhere (v.Input (unescaped text))) ∷ k

@@ -1,14 +1,17 @@
 -- What the operators give (POSIX.1-2017 XCU awk, "Expressions in awk").
-use Rattle.std.specs.Prelude.{ℕ, ◌||◌, not, Bool, true, false, nat_le, if◌then◌else◌, ℤ, pos, length, Result, Ok, Err}
+use Rattle.std.specs.Prelude.{ℕ, ◌||◌, not, Bool, true, false, nat_le, if◌then◌else◌, pos, length, Result, Ok, Err}
 use Rattle.std.specs.declared.cmp.Ordering.{Ordering}
 use Rattle.std.specs.declared.cmp.Ordering.TheVariants as o
+use Rattle.awk_numbers.specs.declared.number.Number.{Number}
+use Rattle.awk_numbers.specs.declared.number.Number.TheVariants.{Whole}
+use Rattle.awk_numbers.specs.declared.number.Numbers.{Numbers}
 use Rattle.awk_text.specs.declared.value.Value.{Value}
 use Rattle.awk_text.specs.declared.value.Value.TheVariants as v
 use Rattle.awk_text.specs.declared.fault.Fault.{Fault}
 use Rattle.awk_text.specs.declared.fault.Fault.TheVariants.{TextTooLong}
 use Rattle.awk_text.specs.Arithmetic as on
 use Rattle.awk_text.specs.Limits.{most_bytes}
-use Rattle.awk_text.specs.Values.{number_of, order}
+use Rattle.awk_text.specs.Values.{number_of, of_number, order}
 use Rattle.awk_format.specs.Directives.{◌>>=◌}
 use Rattle.awk_program.specs.Slots.{Text}
 use Rattle.awk_program.specs.declared.operators.Operator.{Operator}
@@ -26,25 +29,26 @@ of_truth b = v.Num (pos (if b then 1 else 0))
 abbrev pub of_count : ℕ → Value
 of_count n = v.Num (pos n)
 
-abbrev pub operation : Operator → ℤ → ℤ → Result ℤ Fault
-operation a.Add = on.add
-operation a.Subtract = on.sub
-operation a.Multiply = on.mul
-operation a.Divide = on.div
-operation a.Remainder = on.rem
-operation a.Power = on.pow
+abbrev pub operation : Numbers → Operator → Number → Number → Result Number Fault
+operation numbers a.Add = on.add numbers
+operation numbers a.Subtract = on.sub numbers
+operation numbers a.Multiply = on.mul numbers
+operation numbers a.Divide = on.div numbers
+operation numbers a.Remainder = on.rem numbers
+operation numbers a.Power = on.pow numbers
 
 -- both values as numbers, the left one first, and then the operation
-abbrev pub computed : Operator → Value → Value → Result Value Fault
-computed how x y = number_of x >>= λ m. number_of y >>= λ n. operation how m n >>= λ z. Ok (v.Num z)
+abbrev pub computed : Numbers → Operator → Value → Value → Result Value Fault
+computed numbers how x y =
+    number_of numbers x >>= λ m. number_of numbers y >>= λ n. operation numbers how m n >>= λ z. Ok (of_number z)
 
-abbrev pub signed : Sign → Value → Result Value Fault
-signed prefix.Plus x = number_of x >>= λ n. Ok (v.Num n)
-signed prefix.Minus x = number_of x >>= λ n. on.neg n >>= λ m. Ok (v.Num m)
+abbrev pub signed : Numbers → Sign → Value → Result Value Fault
+signed numbers prefix.Plus x = number_of numbers x >>= λ n. Ok (of_number n)
+signed numbers prefix.Minus x = number_of numbers x >>= λ n. on.neg numbers n >>= λ m. Ok (of_number m)
 
-abbrev pub stepped : Step → ℤ → Result ℤ Fault
-stepped step.Increment n = on.add n (pos 1)
-stepped step.Decrement n = on.sub n (pos 1)
+abbrev pub stepped : Numbers → Step → Number → Result Number Fault
+stepped numbers step.Increment n = on.add numbers n (Whole (pos 1))
+stepped numbers step.Decrement n = on.sub numbers n (Whole (pos 1))
 
 abbrev pub is_less : Ordering → Bool
 is_less o.Less = true
@@ -64,8 +68,8 @@ holds c.NotEqual x = not (is_equal x)
 holds c.Greater x = not (is_less x || is_equal x)
 holds c.GreaterOrEqual x = not (is_less x)
 
-abbrev pub compared : Comparison → Value → Value → Value
-compared how x y = of_truth (holds how (order x y))
+abbrev pub compared : Numbers → Comparison → Value → Value → Value
+compared numbers how x y = of_truth (holds how (order numbers x y))
 
 -- a text within the limit
 abbrev pub limited : Text → Result Text Fault

@@ -54,10 +54,10 @@ with_on n b s = record s { on = λ m. if m == n then b else s.on m }
 -- a range is on from a record where the first holds, to one where the last does
 abbrev pub range : ℕ → Rule → Expression → Expression → Part → List Value → Then
 range n x first last part vs k s =
-    if s.on n then unary (value last) part (λ v k s. Goes (action x k) (if truth v then with_on n false s else s)) vs k
-    s
+    if s.on n then unary (value last) part
+    (λ v k s. Goes (action x k) (if truth s.numbers v then with_on n false s else s)) vs k s
     else unary (value first) part
-    (λ v k s. if truth v then Goes (At (Choosing n x) [] ∷ k) (with_on n true s) else Goes k s) vs k s
+    (λ v k s. if truth s.numbers v then Goes (At (Choosing n x) [] ∷ k) (with_on n true s) else Goes k s) vs k s
 
 abbrev pub choose_by : When → ℕ → Rule → Part → List Value → Then
 choose_by p.always n x part vs k s = Goes (action x k) s

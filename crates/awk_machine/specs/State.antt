@@ -1,6 +1,7 @@
 -- What plain awk holds while a script runs (POSIX.1-2017 XCU awk, "Variables and Special Variables", "Expressions in
 -- awk", "User-Defined Functions").
 use Rattle.std.specs.Prelude.{ℕ, Bool, List, Option}
+use Rattle.awk_numbers.specs.declared.number.Numbers.{Numbers}
 use Rattle.awk_text.specs.declared.value.Value.{Value}
 use Rattle.awk_fields.specs.Rows.{Row}
 use Rattle.box_world.specs.Events.{Event, Key}
@@ -52,6 +53,8 @@ pub record Course : Type 0 where
   pub used : ℕ
 
 pub record State : Type 0 where
+  -- which numbers the script has
+  pub numbers : Numbers
   -- the variables and the arrays of the whole script by their names; there are no others
   pub values : Text → Option Value
   pub arrays : Text → Option Array
@@ -74,6 +77,8 @@ pub record State : Type 0 where
 -- what a run is given, and keeps
 pub record Given : Type 0 where
   pub program : Program
+  -- which numbers the script has
+  pub numbers : Numbers
   -- whether an operand or the host may set a variable of this name
   pub can_assign : Text → Bool
   -- whether the script names ENVIRON

@@ -5,7 +5,9 @@ use Rattle.awk_text.specs.declared.place.Place.{Place}
 use Rattle.awk_text.specs.declared.value.Value.{Value}
 use Rattle.awk_text.specs.declared.value.Value.TheVariants as v
 use Rattle.awk_text.specs.declared.fault.Fault.TheVariants.{NextOutside}
+use Rattle.awk_text.specs.Arithmetic.{whole_of}
 use Rattle.awk_text.specs.Values.{number_of}
+use Rattle.awk_format.specs.Directives.{◌>>=◌}
 use Rattle.box_world.specs.Events.{Key}
 use Rattle.awk_program.specs.declared.jumps.Jump.{Jump}
 use Rattle.awk_program.specs.declared.jumps.Jump.TheVariants as j
@@ -128,9 +130,9 @@ after_exit other = Do (Enter Ending) ∷ []
 abbrev pub exit : Place → Option Expression → Part → List Value → Then
 exit place None part vs k s = Goes (after_exit s.phase) (unwound s)
 exit place (Some x) part vs k s =
-    unary (value x) part (λ v. granted place (number_of v) (λ n k s.
-    Goes (after_exit s.phase) (record (unwound s) { status = Some (unsigned_abs (int_rem_euclid n (pos 256))) }))) vs k
-    s
+    unary (value x) part (λ v k s. granted place (number_of s.numbers v >>= whole_of) (λ n k s.
+    Goes (after_exit s.phase) (record (unwound s) { status = Some (unsigned_abs (int_rem_euclid n (pos 256))) })) k s)
+    vs k s
 
 abbrev pub return : Option Expression → Part → List Value → Then
 return None part vs k s = Goes (to_leave k) s
@@ -148,7 +150,7 @@ delete_all a k s = Goes k (with_array a [] s)
 abbrev pub do_statement : Statement → Part → List Value → Then
 do_statement (p.plain x) part vs k s = unary (value x) part (λ v k s. Goes k s) vs k s
 do_statement (p.print place xs r) part vs k s = print_by printed place xs r part vs k s
-do_statement (p.printf place x xs r) part vs k s = print_by (λ s. formatted_by) place (x ∷ xs) r part vs k s
+do_statement (p.printf place x xs r) part vs k s = print_by (λ s. formatted_by s.numbers) place (x ∷ xs) r part vs k s
 do_statement (p.delete place a xs) part vs k s = delete place a xs part vs k s
 do_statement (p.delete_all a) part vs k s = delete_all a k s
 do_statement (p.jump which) part vs k s = jump which k s

@@ -2,11 +2,13 @@
 -- (POSIX.1-2017 XCU awk, "Expressions in awk", "Variables and Special Variables").
 use Rattle.std.specs.Prelude.{ℕ, zero, suc, nat_lt, Bool, true, false, if◌then◌else◌, ℤ, pos, List, [], ◌∷◌, length}
 use Rattle.std.specs.Prelude.{codes, slice_index_or, Option, Some, None, Result, Ok, Err}
+use Rattle.awk_numbers.specs.declared.number.Numbers.{Numbers}
 use Rattle.awk_text.specs.declared.place.Place.{Place}
 use Rattle.awk_text.specs.declared.value.Value.{Value}
 use Rattle.awk_text.specs.declared.value.Value.TheVariants as v
 use Rattle.awk_text.specs.declared.fault.Fault.{Fault}
 use Rattle.awk_text.specs.declared.fault.Fault.TheVariants.{Pattern}
+use Rattle.awk_text.specs.Arithmetic.{whole_of}
 use Rattle.awk_text.specs.Values.{text_of, number_of}
 use Rattle.awk_fields.specs.Separators.{separator}
 use Rattle.awk_fields.specs.Rows.{unsplit, known, place_of, with_field, with_count, joined}
@@ -23,8 +25,8 @@ use Rattle.awk_machine.specs.Variables.{is_nf, own_text, variable, with_variable
 -- ---- the target that is meant
 
 -- the number of a field, from 0 to 65,535
-abbrev pub field_of : Value → Result Value Fault
-field_of x = number_of x >>= λ z. place_of z >>= λ n. Ok (of_count n)
+abbrev pub field_of : Numbers → Value → Result Value Fault
+field_of numbers x = number_of numbers x >>= λ y. whole_of y >>= λ z. place_of z >>= λ n. Ok (of_count n)
 
 -- that number, once it is one
 abbrev pub field_number : Value → ℕ
@@ -85,7 +87,7 @@ set_field (suc n) place x k s = Seeks (Fields s.row) (λ a. Do (Rebuild place (w
 
 abbrev pub set_nf : Place → Value → Then
 set_nf place x k s =
-    granted place (number_of x >>= place_of)
+    granted place (number_of s.numbers x >>= λ y. whole_of y >>= place_of)
     (λ n k s. Seeks (Fields s.row) (λ a. Do (Rebuild place (with_count (values a) n)) ∷ k) s) k s
 
 abbrev pub set : Target → Place → Value → Then
@@ -98,15 +100,15 @@ abbrev pub as_number : Result ℤ Fault → Value
 as_number (Ok n) = v.Num n
 as_number (Err fault) = v.Unset
 
-abbrev pub stored : Target → Value → Value
-stored (Variable a) x = if is_nf a then as_number (number_of x) else x
-stored (Element a key at) x = x
-stored (Field zero) x = v.Input (text_of x)
-stored (Field (suc n)) x = x
+abbrev pub stored : Numbers → Target → Value → Value
+stored numbers (Variable a) x = if is_nf a then as_number (number_of numbers x >>= whole_of) else x
+stored numbers (Element a key at) x = x
+stored numbers (Field zero) x = v.Input (text_of x)
+stored numbers (Field (suc n)) x = x
 
 -- a value is stored, and given
 abbrev pub store : Target → Place → Value → Then
-store to place x k s = Goes (Do (Set to place x) ∷ Do (Give (stored to x)) ∷ k) s
+store to place x k s = Goes (Do (Set to place x) ∷ Do (Give (stored s.numbers to x)) ∷ k) s
 
 -- ---- the whole record
 
