@@ -42,6 +42,7 @@ got_other : (place : Place) (target : Target) (names : List Text) (x : Value) (k
 got_other place target names (v.Input text) k s e = absurd (true≢false e)
 got_other place target names v.Unset k s e = refl
 got_other place target names (v.Num n) k s e = refl
+got_other place target names (v.Real y) k s e = refl
 got_other place target names (v.Text text) k s e = refl
 
 got_record : (place : Place) (target : Target) (names : List Text) (x : Value) (k : List Piece) (s : State)
@@ -51,6 +52,7 @@ got_record : (place : Place) (target : Target) (names : List Text) (x : Value) (
 got_record place target names (v.Input text) k s e = refl
 got_record place target names v.Unset k s e = absurd (true≢false (sym e))
 got_record place target names (v.Num n) k s e = absurd (true≢false (sym e))
+got_record place target names (v.Real y) k s e = absurd (true≢false (sym e))
 got_record place target names (v.Text text) k s e = absurd (true≢false (sym e))
 
 module _ (g : Given) (p : Piece) (place : Place) (target : Target) (names : List Text) (x : Value) (to : List Piece

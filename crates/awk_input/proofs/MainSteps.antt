@@ -4,7 +4,6 @@ use Rattle.std.specs.Prelude.{Result, Ok, Err, Some, None, not, pos, int_lt, if�
 use Rattle.awk_text.specs.declared.fault.Fault.{Fault}
 use Rattle.awk_text.specs.declared.value.Value.{Value}
 use Rattle.awk_text.specs.declared.value.Value.TheVariants as v
-use Rattle.awk_text.specs.Values.{number_of}
 use Rattle.box_world.specs.declared.ask.Reply.{Reply}
 use Rattle.box_world.specs.declared.ask.Request.TheVariants as request
 use Rattle.box_world.specs.Events.{Key, Standard, Writes, calls}
@@ -24,6 +23,7 @@ use Rattle.awk_machine.specs.Streams.{seen, want}
 use Rattle.awk_store.specs.Changes.{with_main}
 use Rattle.awk_store.specs.Kept as kept
 use Rattle.awk_store.specs.Kept.{Kept}
+use Rattle.awk_store.specs.Numbers.{whole_number}
 use Rattle.awk_store.specs.States.{Hidden}
 use Rattle.awk_store.proofs.Reading as law
 use Rattle.awk_streams.specs.declared.getline.NextRecord.TheVariants as found
@@ -44,6 +44,7 @@ use Rattle.awk_store.specs.declared.spot.Spot.{Spot}
 use Rattle.awk_store.proofs.Lifting.{apart, apart-text, lifted_at}
 use Rattle.awk_store.proofs.Acting.{acted, at_rest, moves, alters, done, faulted}
 use Rattle.awk_input.specs.Gots.{IsGot}
+use Rattle.awk_input.specs.Operands.{operand_count}
 use Rattle.awk_input.specs.Performs.{LeadsWhole, MeetsWhole, MeetsIn}
 use Rattle.awk_input.specs.Inputs.{IsMainLine, after_operands, found_main, meeting, message, past_standard, taken}
 
@@ -72,19 +73,19 @@ err_of : Halt → Result (Unit {0}) Halt
 err_of h = Err h
 
 module _ (g : Given) (old : Whole) where
-  pub operand_by : (made : Result ℤ Fault) → number_of (kept.own_value old.0 own.Argc) ≡ made
+  pub operand_by : (made : Result ℤ Fault) → operand_count old.0 ≡ made
       → (k : List Piece) (hid : Hidden) (c : Course) → Agreeing g old hid c →
       advance g (Do Operand ∷ k) (seen (base g old hid) c) ≡ held g (seen (base g old hid) c)
       (granted nowhere made next_operand k (seen (base g old hid) c))
   operand_by made is k hid c a =
       ap (λ r. held g (seen (base g old hid) c) (granted nowhere r next_operand k (seen (base g old hid) c)))
-      (ap number_of (law.own (names_in g) old.0 hid a.sound a.cells own.Argc) ∙ is)
+      (ap (whole_number old.0.numbers) (law.own (names_in g) old.0 hid a.sound a.cells own.Argc) ∙ is)
 
   halt_is : (fault : Fault) (h : Halt) → result_at {A = ℤ} nowhere (Err fault) ≡ Err h → halt_at nowhere fault ≡ h
   halt_is fault h e = cc
 
   -- their count is no number
-  pub no_count : (r : Result ℤ Fault) (h : Halt) → r ≡ number_of (kept.own_value old.0 own.Argc)
+  pub no_count : (r : Result ℤ Fault) (h : Halt) → r ≡ operand_count old.0
       → result_at nowhere r ≡ Err h → Acts g (Do Operand) (goes_on {A = Unit {0}}) old (Err h) old
   no_count (Ok n) h same e = absurd (cc)
   no_count (Err fault) h same e =
@@ -106,7 +107,7 @@ module _ (g : Given) (old : Whole) where
   passed_by false k hid c = refl
 
   -- none is left
-  pub passes_operands : (n : ℤ) (new : Kept) → number_of (kept.own_value old.0 own.Argc) ≡ Ok n
+  pub passes_operands : (n : ℤ) (new : Kept) → operand_count old.0 ≡ Ok n
       → int_lt (pos old.0.main.position) n ≡ false → new ≡ with_main (after_operands old.0.main) old.0 →
       Acts g (Do Operand) goes_on old (Ok (tt {0})) (new, old.1)
   passes_operands n new is over same =
@@ -262,6 +263,7 @@ pub no_record : (g : Given) (x : Value) (vs : List Value) (old : Whole) → ((te
 no_record g (v.Input text) vs old f = absurd (f text refl)
 no_record g v.Unset vs old f = moves (at_rest _ old) (λ k hid c a. refl)
 no_record g (v.Num n) vs old f = moves (at_rest _ old) (λ k hid c a. refl)
+no_record g (v.Real y) vs old f = moves (at_rest _ old) (λ k hid c a. refl)
 no_record g (v.Text text) vs old f = moves (at_rest _ old) (λ k hid c a. refl)
 
 pub no_record_meets : {W : Type 0} {ghosts : Ghosts W} (g : Given) (x : Value) (old : Whole) (w : W)

@@ -7,7 +7,6 @@ use Rattle.std.specs.Prelude.{Result, Ok, Err, Some, pos, int_lt, codes, if◌th
 use Rattle.std.specs.Fmt.{decimal}
 use Rattle.std.specs.List.{after_first, before_first, list_any, position_or_len}
 use Rattle.awk_lib.specs.Arrays.{element}
-use Rattle.awk_text.specs.Values.{number_of}
 use Rattle.box_world.specs.Events.{Standard}
 use Rattle.awk_program.specs.Slots.{Text}
 use Rattle.awk_program.specs.declared.variables.Own.TheVariants as own
@@ -28,7 +27,7 @@ use Rattle.awk_store.specs.Wholes.{Whole, Agreeing, base}
 use Rattle.awk_store.proofs.Acting.{at_rest, moves}
 use Rattle.awk_store.proofs.Agreeing.{array-so}
 use Rattle.awk_input.specs.Hosts.{Hosted, IsHost, can_set}
-use Rattle.awk_input.specs.Operands.{Moves, argv, is_assigning}
+use Rattle.awk_input.specs.Operands.{Moves, argv, is_assigning, operand_count}
 use Rattle.awk_input.proofs.MainSteps.{main_agrees, operand_by}
 use Rattle.awk_input.proofs.Opening.{number_is}
 
@@ -131,7 +130,7 @@ module _ (g : Given) (old : Whole) where
             (ap (λ es. text_in (element es (decimal old.0.main.position))) (argv_at hid c a) ∙ sym is);
       })
 
-  pub to_next : (n : ℤ) → number_of (kept.own_value old.0 own.Argc) ≡ Ok n → int_lt (pos old.0.main.position) n ≡ true
+  pub to_next : (n : ℤ) → operand_count old.0 ≡ Ok n → int_lt (pos old.0.main.position) n ≡ true
       → Passes g (Do Operand) old (λ k. Do Step ∷ Do Look ∷ k) old
   to_next n is left = moves (at_rest _ old) (λ k hid c a.
       operand_by g old (Ok n) is k hid c a

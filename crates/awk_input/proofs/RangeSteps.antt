@@ -23,7 +23,7 @@ use Rattle.awk_input.specs.Ranges.{acting, turned_on}
 
 module _ (g : Given) (old : Whole) (n : ℕ) (x : Rule) (y z : Expression) (is : x.when ≡ p.range y z) (v : Value) where
   -- the machine's move, where the range is on or off, and the value holds or not
-  moves_by : (on holds : Bool) → get_or old.0.on n false ≡ on → truth v ≡ holds
+  moves_by : (on holds : Bool) → get_or old.0.on n false ≡ on → truth old.0.numbers v ≡ holds
       → (k : List Piece) (hid : Hidden) (c : Course) →
       advance g (At (Choosing n x) (v ∷ []) ∷ k) (seen (base g old hid) c)
       ≡ held g (seen (base g old hid) c)
@@ -35,8 +35,8 @@ module _ (g : Given) (old : Whole) (n : ℕ) (x : Rule) (y z : Expression) (is :
       let s = seen (base g old hid) c in
       ap (λ w. held g s (choose_by w n x (Choosing n x) (v ∷ []) k s)) is
       ∙ ap (λ b. held g s ((if b then unary (value z) (Choosing n x)
-      (λ u k s. Goes (action x k) (if truth u then machine.with_on n false s else s)) (v ∷ []) k s
-      else unary (value y) (Choosing n x) (λ u k s. if truth u then Goes (At (Choosing n x) [] ∷ k)
+      (λ u k s. Goes (action x k) (if truth s.numbers u then machine.with_on n false s else s)) (v ∷ []) k s
+      else unary (value y) (Choosing n x) (λ u k s. if truth s.numbers u then Goes (At (Choosing n x) [] ∷ k)
       (machine.with_on n true s) else Goes k s) (v ∷ []) k s))) e
       ∙ ap (λ h. held g s (if on then Goes (action x k) (if h then machine.with_on n false s else s) else
       (if h then Goes (At (Choosing n x) [] ∷ k) (machine.with_on n true s) else Goes k s))) f
@@ -45,11 +45,12 @@ module _ (g : Given) (old : Whole) (n : ℕ) (x : Rule) (y z : Expression) (is :
       → Agreeing g (with_on n b old.0, old.1) hid c
   agrees_on b hid c a = record { tells = a.tells; row = a.row; cells = a.cells; sound = a.sound }
 
-  pub stays_off : get_or old.0.on n false ≡ false → truth v ≡ false
+  pub stays_off : get_or old.0.on n false ≡ false → truth old.0.numbers v ≡ false
       → Acts g (At (Choosing n x) (v ∷ [])) (turned_on n x) old (Ok false) old
   stays_off e f = done (moves (at_rest _ old) (λ k hid c a. moves_by false false e f k hid c))
 
-  pub turns_so : (new : Kept) → get_or old.0.on n false ≡ false → truth v ≡ true → new ≡ with_on n true old.0
+  pub turns_so : (new : Kept) → get_or old.0.on n false ≡ false → truth old.0.numbers v ≡ true → new
+      ≡ with_on n true old.0
       → Acts g (At (Choosing n x) (v ∷ [])) (turned_on n x) old (Ok true) (new, old.1)
   turns_so new e f same =
       subst (λ (u : Kept). Acts g (At (Choosing n x) (v ∷ [])) (turned_on n x) old (Ok true) (u, old.1)) (sym same)
@@ -60,11 +61,13 @@ module _ (g : Given) (old : Whole) (n : ℕ) (x : Rule) (y z : Expression) (is :
             (turns (names_in g) old.0 hid n true),
       ))))
 
-  pub stays_on : get_or old.0.on n false ≡ true → truth v ≡ false → Acts g (At (Choosing n x) (v ∷ [])) (acting x) old
+  pub stays_on : get_or old.0.on n false ≡ true → truth old.0.numbers v ≡ false → Acts g (At (Choosing n x) (v ∷ []))
+      (acting x) old
       (Ok (tt {0})) old
   stays_on e f = done (moves (at_rest _ old) (λ k hid c a. moves_by true false e f k hid c))
 
-  pub turns_off : (new : Kept) → get_or old.0.on n false ≡ true → truth v ≡ true → new ≡ with_on n false old.0
+  pub turns_off : (new : Kept) → get_or old.0.on n false ≡ true → truth old.0.numbers v ≡ true → new
+      ≡ with_on n false old.0
       → Acts g (At (Choosing n x) (v ∷ [])) (acting x) old (Ok (tt {0})) (new, old.1)
   turns_off new e f same =
       subst (λ (u : Kept). Acts g (At (Choosing n x) (v ∷ [])) (acting x) old (Ok (tt {0})) (u, old.1)) (sym same)

@@ -1,6 +1,7 @@
 -- The operands of the main input (POSIX.1-2017 XCU awk, "OPERANDS" and "Input Files").
-use Rattle.std.specs.Prelude.{◌≡◌, ◌&&◌, Bool, true, false, List, ◌∷◌, codes, unwrap_or}
+use Rattle.std.specs.Prelude.{◌≡◌, ◌&&◌, Bool, true, false, ℤ, List, ◌∷◌, codes, unwrap_or, Result}
 use Rattle.std.specs.List.{before_first, list_any}
+use Rattle.awk_text.specs.declared.fault.Fault.{Fault}
 use Rattle.awk_program.specs.Slots.{Text, slot_of}
 use Rattle.awk_program.specs.declared.variables.Own.TheVariants as own
 use Rattle.awk_program.specs.declared.variables.Variable.{Variable}
@@ -14,11 +15,16 @@ use Rattle.awk_machine.specs.Moves.{move}
 use Rattle.awk_machine.specs.Pieces.{Piece, Do, Begun, Report, Then, Asks}
 use Rattle.awk_machine.specs.State.{Course, Given}
 use Rattle.awk_machine.specs.Streams.{seen}
-use Rattle.awk_store.specs.Kept.{Kept}
+use Rattle.awk_store.specs.Kept.{Kept, own_value}
+use Rattle.awk_store.specs.Numbers.{whole_number}
 use Rattle.awk_store.specs.States.{Hidden}
 use Rattle.awk_streams.specs.Tables.{Table, entries_without, open_of}
 use Rattle.awk_store.specs.Wholes.{Whole, Agreeing, base, used}
 use Rattle.awk_input.specs.Hosts.{Hosted, can_set}
+
+-- how many operands ARGC says there are, less the fraction
+abbrev pub operand_count : Kept → Result ℤ Fault
+operand_count k = whole_number k.numbers (own_value k own.Argc)
 
 -- the array of the operands
 abbrev pub argv : Variable

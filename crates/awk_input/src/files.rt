@@ -29,12 +29,12 @@ use awk_streams::opening::{OpenAsk, open};
 use awk_streams::requests::request;
 use awk_streams::streams::{Class, StreamName, Streams};
 use awk_text::Memory;
+use awk_text::buffer::Buffer;
 use awk_text::octets::Octets;
 use awk_text::place::Place;
 use awk_text::value::Value;
 use box_world::ask::{Mode, Request};
 use box_world::world::World;
-use itoa::Buffer;
 use std::alloc::Global;
 
 // ---- the file begins

@@ -22,11 +22,11 @@ use awk_streams::getline::fetch;
 use awk_streams::halt::Halt;
 use awk_streams::inputs::InputStream;
 use awk_streams::streams::{Class, StreamName, Streams};
+use awk_text::buffer::Buffer;
 use awk_text::lent::Lent;
 use awk_text::place::Place;
 use awk_text::value::Value;
 use box_world::world::World;
-use itoa::Buffer;
 use std::alloc::Global;
 
 /// The stream of a file of this name: `-` is the standard input.

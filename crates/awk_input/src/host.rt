@@ -3,6 +3,7 @@ ghost use Rattle.std.specs.Prelude.{◌≡◌, [], OnOk, OnErr};
 ghost use Rattle.awk_input.specs.Hosts as spec;
 ghost use Rattle.awk_input.specs.Hosts.{with_name, with_word};
 
+use awk_numbers::number::Numbers;
 use awk_text::Memory;
 use awk_text::octets::Octets;
 use awk_tokens::{is_name, reserved};
@@ -18,11 +19,12 @@ pub enum HostUse {
     Barred,
 }
 
-/// What the host of a run gave: the most steps, the words that the run was started with, and what
-/// names are to it. A look-up takes no more time where there are many.
+/// What the host of a run gave: the most steps, which numbers the script has, the words that the run was started with,
+/// and what names are to it. A look-up takes no more time where there are many.
 #[derive(Drop)]
 pub struct Host {
     bound: u64,
+    numbers: Numbers,
     words: IndexSet<Vec<u8>>,
     names: IndexMap<Vec<u8>, HostUse>,
 }
@@ -35,6 +37,7 @@ impl Model for Host {
 
     ghost view = { λ h. record {
       bound = h.bound;
+      numbers = h.numbers;
       words = map (λ t. t.items) h.words.keys;
       names =
           map (λ e. (e.0.items, e.1)) h.names.entries;
@@ -43,11 +46,12 @@ impl Model for Host {
 
 impl Host {
     /// No word is given, and no name is known. Takes no memory.
-    pub fn new(alloc: Global, bound: u64) -> Host
-        ensures { result ≡ record { bound = bound; words = []; names = [] } }
+    pub fn new(alloc: Global, bound: u64, numbers: Numbers) -> Host
+        ensures { result ≡ record { bound = bound; numbers = numbers; words = []; names = [] } }
     {
         Host {
             bound,
+            numbers,
             words: IndexSet::new(alloc),
             names: IndexMap::new(alloc),
         }
@@ -58,6 +62,13 @@ impl Host {
         ensures { result ≡ self.now.bound }
     {
         self.bound
+    }
+
+    /// Which numbers the script has.
+    pub fn numbers(&self) -> Numbers
+        ensures { result ≡ self.now.numbers }
+    {
+        self.numbers
     }
 
     /// Adds a word that the run was started with, or answers `Memory`, with nothing changed.

@@ -27,11 +27,11 @@ use awk_streams::getline::{NextRecord, record, take_line, take_standard_line};
 use awk_streams::halt::Halt;
 use awk_streams::inputs;
 use awk_streams::streams::{Class, StreamName, Streams};
+use awk_text::buffer::Buffer;
 use awk_text::octets::Octets;
 use awk_text::place::Place;
 use awk_text::value::Value;
 use box_world::world::World;
-use itoa::Buffer;
 use std::alloc::Global;
 
 /// Reads a record of the standard input.

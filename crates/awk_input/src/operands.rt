@@ -2,18 +2,16 @@
 ghost use Rattle.std.specs.Prelude.{◌≡◌, ◌+◌, ◌<◌, ◌≤◌, false, true, pos, length, int_lt, IfOk, MatchOption};
 ghost use Rattle.std.specs.Fmt.{decimal};
 ghost use Rattle.std.specs.List.{position_or_len};
-ghost use Rattle.awk_text.specs.Values as values;
 ghost use Rattle.awk_lib.specs.Arrays.{element};
-ghost use Rattle.awk_program.specs.declared.variables.Own.TheVariants as own;
 ghost use Rattle.awk_machine.specs.MainInput.{is_equals, operand_of, text_in};
 ghost use Rattle.awk_machine.specs.Pieces as machine;
 ghost use Rattle.awk_machine.specs.Pieces.{Do, Piece};
 ghost use Rattle.awk_machine.specs.State.{Given};
-ghost use Rattle.awk_store.specs.Kept.{array, own_value};
+ghost use Rattle.awk_store.specs.Kept.{array};
 ghost use Rattle.awk_streams.specs.Tasks.{Owns, goes_on};
 ghost use Rattle.awk_store.specs.Wholes.{Whole};
 ghost use Rattle.awk_input.specs.Hosts.{IsHost};
-ghost use Rattle.awk_input.specs.Operands.{Moves, argv, is_assigning};
+ghost use Rattle.awk_input.specs.Operands.{Moves, argv, is_assigning, operand_count};
 ghost use Rattle.awk_input.specs.Performs.{MeetsWhole};
 
 use crate::assigns::{AssignmentOperand, assign};
@@ -25,6 +23,7 @@ use awk_store::Store;
 use awk_store::steps::step;
 use awk_streams::halt::{Halt, at};
 use awk_streams::streams::Streams;
+use awk_text::arithmetic::whole_of;
 use awk_text::fault::Fault;
 use awk_text::octets::Octets;
 use awk_text::place::Place;
@@ -33,11 +32,12 @@ use box_world::world::World;
 use itoa::Buffer;
 use std::alloc::Global;
 
+/// How many operands ARGC says there are: its number without the fraction.
 fn argument_count(store: &Store) -> Result<i64, Fault>
-    ensures { result ≡ values.number_of (own_value store.now own.Argc) }
+    ensures { result ≡ operand_count store.now }
 {
     match store.own(Own::Argc) {
-        Some(value) => number_of(value),
+        Some(value) => whole_of(number_of(store.numbers(), value)?),
         None => Ok(0),
     }
 }

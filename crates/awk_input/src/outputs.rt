@@ -19,12 +19,12 @@ use awk_streams::halt::Halt;
 use awk_streams::opening::open_output;
 use awk_streams::requests::put;
 use awk_streams::streams::{Class, StreamName, Streams};
+use awk_text::buffer::Buffer;
 use awk_text::lent::Lent;
 use awk_text::octets::Octets;
 use awk_text::place::Place;
 use box_world::ask::Mode;
 use box_world::world::World;
-use itoa::Buffer;
 use std::alloc::Global;
 
 fn class_of(how: Redirect) -> Class

@@ -18,7 +18,7 @@ use awk_streams::halt::Halt;
 pub fn begin_range(store: &mut Store, rule: usize, holds: bool) -> Result<bool, Halt>
     requires { get_or store.old.on rule false ≡ false }
     ensures { (g : Given) (t : Table) (x : Rule) (y z : Expression) (first : Value) → x.when ≡ p.range y z →
-        holds ≡ truth first →
+        holds ≡ truth store.old.numbers first →
         Acts g (At (Choosing rule x) (first ∷ [])) (turned_on rule x) (store.old, t) result (store.new, t) }
 {
     if !holds {
@@ -33,7 +33,7 @@ pub fn begin_range(store: &mut Store, rule: usize, holds: bool) -> Result<bool, 
 pub fn end_range(store: &mut Store, rule: usize, holds: bool) -> Result<(), Halt>
     requires { get_or store.old.on rule false ≡ true }
     ensures { (g : Given) (t : Table) (x : Rule) (y z : Expression) (last : Value) → x.when ≡ p.range y z →
-        holds ≡ truth last →
+        holds ≡ truth store.old.numbers last →
         Acts g (At (Choosing rule x) (last ∷ [])) (acting x) (store.old, t) result (store.new, t) }
 {
     if !holds {

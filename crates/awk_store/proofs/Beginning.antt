@@ -89,7 +89,7 @@ arrays_begin (n ∷ ns) x once = array_begins n ns x once (arrays_begin ns x (of
 
 pub begins : BeginsSo
 begins g once =
-    ap (λ vs. record (state (texts_of g.program.variables) (first_kept g.program.variables) first_hidden) {
+    ap (λ vs. record (state (texts_of g.program.variables) (first_kept g.numbers g.program.variables) first_hidden) {
       values =
           vs;
     }) (fun_ext (λ x. values_begin g.program.variables x once))

@@ -1,15 +1,11 @@
 -- The statements that leave what is left to be done.
-use Rattle.std.proofs.Common.{◌≡◌, refl, sym, ap, subst, ◌∙◌, ℕ, ◌≢◌, ℤ, Bool, true, false, List, [], ◌∷◌}
-use Rattle.std.specs.Prelude.{Result, Ok, Err, Some, None, pos, unsigned_abs, if◌then◌else◌}
+use Rattle.std.proofs.Common.{◌≡◌, refl, sym, ap, subst, ◌∙◌, ℕ, ◌≢◌, ℤ, List, [], ◌∷◌}
+use Rattle.std.specs.Prelude.{Result, Ok, Err, Some, None, pos, unsigned_abs}
 use Rattle.std.specs.Int.{int_rem_euclid}
 use Rattle.awk_text.specs.declared.fault.Fault.{Fault}
 use Rattle.awk_text.specs.declared.fault.Fault.TheVariants as fault
 use Rattle.awk_text.specs.declared.place.Place.{Place}
 use Rattle.awk_text.specs.declared.value.Value.{Value}
-use Rattle.awk_text.specs.declared.value.Value.TheVariants as v
-use Rattle.awk_text.specs.Arithmetic.{is_in_range}
-use Rattle.awk_text.specs.Numerals.{number}
-use Rattle.awk_text.specs.Values.{number_of}
 use Rattle.awk_format.specs.Directives.{◌>>=◌}
 use Rattle.awk_program.specs.declared.jumps.Jump.TheVariants as j
 use Rattle.awk_program.specs.Program as p
@@ -24,7 +20,8 @@ use Rattle.awk_store.specs.Kept.{Kept}
 use Rattle.awk_store.specs.States.{Hidden, phase_of}
 use Rattle.awk_store.specs.declared.phase.Phase.{Phase}
 use Rattle.awk_store.specs.declared.phase.Phase.TheVariants as phase
-use Rattle.awk_store.specs.Numbers.{exit_status}
+use Rattle.awk_store.specs.Numbers.{exit_status, whole_number}
+use Rattle.awk_store.proofs.Wholly.{whole_plain}
 use Rattle.awk_streams.specs.declared.halt.Halt.{Halt}
 use Rattle.awk_streams.specs.declared.halt.Halt.TheVariants as halt
 use Rattle.awk_streams.specs.Tables.{Table}
@@ -111,7 +108,7 @@ module _ (g : Given) (old : Kept) (t : Table) where
       ok_inj a b e = cc
   exit_by (Err f) n is place k s = absurd (cc)
 
-  pub exit_with_so : (place : Place) (x : Expression) (val : Value) (n : ℕ) → exit_status val ≡ Ok n →
+  pub exit_with_so : (place : Place) (x : Expression) (val : Value) (n : ℕ) → exit_status old.numbers val ≡ Ok n →
       Passes g (At (Doing (p.exit place (Some x))) (val ∷ [])) (old, t) (λ k. after_exit (phase_of old.phase))
       (changes.with_status n (changes.unwound old), t)
   exit_with_so place x val n is =
@@ -119,7 +116,7 @@ module _ (g : Given) (old : Kept) (t : Table) where
         hid,
         statuses n hid c a,
         ap (held g (seen (base g (old, t) hid) c))
-            (exit_by (number_of val) n is place k (seen (base g (old, t) hid) c)),
+            (exit_by (whole_number old.numbers val) n is place k (seen (base g (old, t) hid) c)),
       ))
 
   exit_met : (made : Result ℤ Fault) (f : Fault) → (made >>= λ z. Ok (unsigned_abs (int_rem_euclid z (pos 256))))
@@ -133,10 +130,10 @@ module _ (g : Given) (old : Kept) (t : Table) where
       err_inj : (a b : Fault) → status_err a ≡ status_err b → a ≡ b
       err_inj a b e = cc
 
-  pub exit_with_not : (place : Place) (x : Expression) (val : Value) (f : Fault) → exit_status val ≡ Err f
+  pub exit_with_not : (place : Place) (x : Expression) (val : Value) (f : Fault) → exit_status old.numbers val ≡ Err f
       → Passes g (At (Doing (p.exit place (Some x))) (val ∷ [])) (old, t) (λ k. ends (Faulted f place)) (old, t)
   exit_with_not place x val f is = moves (at_rest _ _) (λ k hid c a. ap (held g (seen (base g (old, t) hid) c))
-      (exit_met (number_of val) f is place k (seen (base g (old, t) hid) c)))
+      (exit_met (whole_number old.numbers val) f is place k (seen (base g (old, t) hid) c)))
 
   -- ---- as the code has them
 
@@ -170,7 +167,8 @@ module _ (g : Given) (old : Kept) (t : Table) where
   exit_is place new same = subst (λ (n : Kept). Passes g (At (Doing (p.exit place None)) []) (old, t)
       (λ k. after_exit (phase_of n.phase)) (n, t)) (sym same) (exit_so place)
 
-  pub exit_with_is : (place : Place) (x : Expression) (val : Value) (n : ℕ) (mid new : Kept) → exit_status val ≡ Ok n
+  pub exit_with_is : (place : Place) (x : Expression) (val : Value) (n : ℕ) (mid new : Kept)
+      → exit_status old.numbers val ≡ Ok n
       → mid ≡ changes.unwound old → new ≡ changes.with_status n mid →
       Passes g (At (Doing (p.exit place (Some x))) (val ∷ [])) (old, t) (λ k. after_exit (phase_of new.phase)) (new, t)
   exit_with_is place x val n mid new is unwinds_to same =
@@ -178,26 +176,19 @@ module _ (g : Given) (old : Kept) (t : Table) where
       (λ k. after_exit (phase_of m.phase)) (m, t)) (sym (same ∙ ap (changes.with_status n) unwinds_to))
       (exit_with_so place x val n is)
 
--- the one fault that a status can have
-ranged_by : (z : ℤ) (b : Bool) (f : Fault)
-    → ((if b then Ok z else Err fault.OutOfRange) >>= λ n. Ok (unsigned_abs (int_rem_euclid n (pos 256)))) ≡ Err f
-    → f ≡ fault.OutOfRange
-ranged_by z true f is = absurd (cc)
-ranged_by z false f is = sym (err_inj fault.OutOfRange f is)
+-- the fault of a status is that of its number
+status_by : (r : Result ℤ Fault) (f : Fault) → (r >>= λ n. Ok (unsigned_abs (int_rem_euclid n (pos 256)))) ≡ Err f
+    → r ≡ Err f
+status_by (Ok n) f is = absurd (cc)
+status_by (Err e) f is = ap (λ x. Err x) (err_inj e f is)
   where
     err_inj : (a b : Fault) → status_err a ≡ status_err b → a ≡ b
     err_inj a b e = cc
 
-status_fault : (val : Value) (f : Fault) → exit_status val ≡ Err f → f ≡ fault.OutOfRange
-status_fault v.Unset f is = absurd (cc)
-status_fault (v.Num n) f is = absurd (cc)
-status_fault (v.Text text) f is = ranged_by (number text) (is_in_range (number text)) f is
-status_fault (v.Input text) f is = ranged_by (number text) (is_in_range (number text)) f is
-
 pub exit_with_is_not : (g : Given) (old : Kept) (t : Table) (place : Place) (x : Expression) (val : Value) (f : Fault)
-    (h : Halt) → exit_status val ≡ Err f → h ≡ halt_at place f →
+    (h : Halt) → exit_status old.numbers val ≡ Err f → h ≡ halt_at place f →
     Jumps g (At (Doing (p.exit place (Some x))) (val ∷ [])) (old, t) h (old, t)
 exit_with_is_not g old t place x val f h is same =
+    let plain = whole_plain old.numbers val f (status_by (whole_number old.numbers val) f is) in
     subst (λ y. Jumps g (At (Doing (p.exit place (Some x))) (val ∷ [])) (old, t) y (old, t))
-    (sym (same ∙ ap (halt_at place) (status_fault val f is)))
-    (exit_with_not g old t place x val fault.OutOfRange (is ∙ ap status_err (status_fault val f is)))
+    (sym (same ∙ plain place)) (exit_with_not g old t place x val f is)

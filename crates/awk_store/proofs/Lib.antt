@@ -24,3 +24,4 @@ pub mod Slots
 pub mod Spots
 pub mod Stepping
 pub mod VariableSteps
+pub mod Wholly

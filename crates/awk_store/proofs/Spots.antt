@@ -11,7 +11,7 @@ use Rattle.awk_store.specs.declared.spot.Spot.TheVariants as s
 use Rattle.awk_store.proofs.Agreeing.{nf-so}
 
 pub stored-so : (g : Given) (w : Whole) (hid : Hidden) (c : Course) → Agreeing g w hid c → (x : Spot) (val : Value)
-    → machine.stored (meant (names_in g) x) val ≡ stored x val
+    → machine.stored w.0.numbers (meant (names_in g) x) val ≡ stored w.0.numbers x val
 stored-so g w hid c a (s.Variable x) val = rw (nf-so g w hid c a x) refl
 stored-so g w hid c a (s.Element place x key) val = refl
 stored-so g w hid c a (s.Field zero) val = refl

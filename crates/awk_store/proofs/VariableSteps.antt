@@ -3,6 +3,7 @@ use Rattle.std.proofs.Common.{◌≡◌, ◌⊎◌, inl, inr, refl, sym, ap, sub
 use Rattle.std.specs.Prelude.{Result, Ok, Err, pos, OnOk, OnErr, IfErr}
 use Rattle.awk_fields.specs.Rows.{Row, IsKept, HasFields, SetsCount, SetsNoCount, with_count, place_of}
 use Rattle.awk_format.specs.Directives.{◌>>=◌}
+use Rattle.awk_text.specs.Arithmetic.{whole_of}
 use Rattle.awk_text.specs.Values.{number_of}
 use Rattle.awk_text.specs.declared.fault.Fault.{Fault}
 use Rattle.awk_text.specs.declared.fault.Fault.TheVariants as fault
@@ -21,9 +22,10 @@ use Rattle.awk_machine.specs.Questions.{Fields, Values, values}
 use Rattle.awk_machine.specs.State.{Course, Given}
 use Rattle.awk_machine.specs.Streams.{seen}
 use Rattle.awk_store.specs.Changes as changes
-use Rattle.awk_store.specs.Changes.{change_at}
 use Rattle.awk_store.specs.Kept as kept
 use Rattle.awk_store.specs.Kept.{Kept}
+use Rattle.awk_store.specs.Numbers.{whole_number}
+use Rattle.awk_store.proofs.Wholly.{bound_twice}
 use Rattle.awk_store.proofs.Cells.{change_count}
 use Rattle.awk_store.specs.States.{Hidden}
 use Rattle.awk_streams.specs.Tasks.{goes_on}
@@ -107,13 +109,17 @@ module _ (g : Given) (old : Whole) (x : Variable) where
 
   -- ---- NF is set
 
-  nf_set_faults : (place : Place) (val : Value) (e : Fault) → kept.is_nf x ≡ true → (number_of val >>= place_of) ≡ Err e
+  -- the number of fields that a value stands for
+  abbrev count_in : Value → Result ℕ Fault
+  count_in val = number_of old.0.numbers val >>= λ y. whole_of y >>= place_of
+
+  nf_set_faults : (place : Place) (val : Value) (e : Fault) → kept.is_nf x ≡ true → count_in val ≡ Err e
       → (k : List Piece) (hid : Hidden) (c : Course) → Agreeing g old hid c →
       advance g (Do (Set (machine.Variable (variable_of (names_in g) x)) place val) ∷ k) (seen (base g old hid) c)
       ≡ Goes (ends (Faulted e place)) (seen (base g old hid) c)
   nf_set_faults place val e y is k hid c a = rw (nf-so g old hid c a x, y, is) refl
 
-  nf_set_moves : (place : Place) (val : Value) (n : ℕ) → kept.is_nf x ≡ true → (number_of val >>= place_of) ≡ Ok n
+  nf_set_moves : (place : Place) (val : Value) (n : ℕ) → kept.is_nf x ≡ true → count_in val ≡ Ok n
       → (k : List Piece) (hid : Hidden) (c : Course) → Agreeing g old hid c →
       advance g (Do (Set (machine.Variable (variable_of (names_in g) x)) place val) ∷ k) (seen (base g old hid) c)
       ≡ Seeks (Fields hid.row) (λ a. Do (Rebuild place (with_count (values a) n)) ∷ k) (seen (base g old hid) c)
@@ -121,19 +127,22 @@ module _ (g : Given) (old : Whole) (x : Variable) where
 
   -- ---- NF: its number, the fields, and the record
 
-  number_so : (val : Value) (n : ℤ) → number_of val ≡ Ok n → (number_of val >>= place_of) ≡ place_of n
-  number_so val n e = ap (λ r. r >>= place_of) e
+  count_so : (val : Value) → count_in val ≡ (whole_number old.0.numbers val >>= place_of)
+  count_so val = bound_twice (number_of old.0.numbers val) whole_of place_of
+
+  number_so : (val : Value) (n : ℤ) → whole_number old.0.numbers val ≡ Ok n → count_in val ≡ place_of n
+  number_so val n e = count_so val ∙ ap (λ r. r >>= place_of) e
 
   module _ (place : Place) (val : Value) (y : kept.is_nf x ≡ true) where
     abbrev nf_task : Piece
     nf_task = Do (Set (machine.Variable (variable_of (names_in g) x)) place val)
 
-    pub no_number : (r : Result ℤ Fault) (h : Halt) → r ≡ number_of val → result_at place r ≡ Err h
+    pub no_number : (r : Result ℤ Fault) (h : Halt) → r ≡ whole_number old.0.numbers val → result_at place r ≡ Err h
         → Acts g (Do (Set (machine.Variable (variable_of (names_in g) x)) place val)) (goes_on {A = Unit {0}}) old
         (Err h) old
     no_number (Ok n) h same e = absurd (cc)
     no_number (Err fault) h same e =
-        let is : (number_of val >>= place_of) ≡ Err fault = ap (λ r. r >>= place_of) (sym same) in
+        let is : count_in val ≡ Err fault = count_so val ∙ ap (λ r. r >>= place_of) (sym same) in
         subst (λ (q : Halt). Acts g (Do (Set (machine.Variable (variable_of (names_in g) x)) place val))
         (goes_on {A = Unit {0}}) old (Err q) old) (halt_is fault h e)
         (faulted refl (inr (moves (at_rest _ old) (nf_set_faults place val fault y is))))
@@ -142,7 +151,7 @@ module _ (g : Given) (old : Whole) (x : Variable) where
         halt_is fault h e = cc
 
     -- it is set: of the fields that there are or are added, the text is made
-    pub set_nf : (new : Kept) (n : ℤ) → number_of val ≡ Ok n → new ≡ changes.with_row new.row old.0
+    pub set_nf : (new : Kept) (n : ℤ) → whole_number old.0.numbers val ≡ Ok n → new ≡ changes.with_row new.row old.0
         → SetsCount old.0.row n (kept.own_text old.0 own.Ofs) new.row →
         Acts g (Do (Set (machine.Variable (variable_of (names_in g) x)) place val)) goes_on old (Ok (tt {0})) (
           new,
@@ -166,7 +175,8 @@ module _ (g : Given) (old : Whole) (x : Variable) where
         ))))
 
     -- it is not: the number is none of a field, or the text would be too long
-    pub set_no_nf : (new : Kept) (n : ℤ) (met : Fault) → number_of val ≡ Ok n → new ≡ changes.with_row new.row old.0
+    pub set_no_nf : (new : Kept) (n : ℤ) (met : Fault) → whole_number old.0.numbers val ≡ Ok n
+        → new ≡ changes.with_row new.row old.0
         → IsKept old.0.row new.row →
         SetsNoCount old.0.row n (kept.own_text old.0 own.Ofs) met
         → Acts g (Do (Set (machine.Variable (variable_of (names_in g) x)) place val)) (goes_on {A = Unit {0}}) old
@@ -197,7 +207,7 @@ module _ (g : Given) (old : Whole) (x : Variable) where
             (λ k hid c a. rebuild_faults g old place (with_count vs count) over k hid c a
             ∙ ap (λ (x : Fault). Goes (ends (Faulted x place)) (seen (base g old hid) c)) (sym f))))
 
-    pub nf_result : (r : Result (Unit {0}) Fault) (new : Kept) (n : ℤ) → number_of val ≡ Ok n
+    pub nf_result : (r : Result (Unit {0}) Fault) (new : Kept) (n : ℤ) → whole_number old.0.numbers val ≡ Ok n
         → OnOk r (SetsCount old.0.row n (kept.own_text old.0 own.Ofs) new.row) → OnErr r (IsKept old.0.row new.row) →
         new ≡ changes.with_row new.row old.0 → IfErr r (λ e. SetsNoCount old.0.row n (kept.own_text old.0 own.Ofs) e) →
         Acts g (Do (Set (machine.Variable (variable_of (names_in g) x)) place val)) goes_on old (result_at place r)

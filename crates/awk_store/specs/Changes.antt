@@ -2,6 +2,9 @@
 use Rattle.std.specs.Prelude.{◌≡◌, ◌⊎◌, Option, Ok, Err, unwrap_or, ℕ, zero, suc, ◌+◌, ◌-◌, Bool, true, false}
 use Rattle.std.specs.Prelude.{if◌then◌else◌, ℤ, pos, List, [], ◌∷◌, ◌++◌, length, take, map, replicate, slice_set, Some}
 use Rattle.std.specs.Prelude.{None, Result}
+use Rattle.awk_numbers.specs.declared.number.Number.{Number}
+use Rattle.awk_numbers.specs.declared.number.Number.TheVariants.{Whole}
+use Rattle.awk_numbers.specs.declared.number.Numbers.{Numbers}
 use Rattle.awk_text.specs.declared.value.Value.{Value}
 use Rattle.awk_text.specs.declared.value.Value.TheVariants as v
 use Rattle.awk_text.specs.declared.fault.Fault.{Fault}
@@ -39,8 +42,9 @@ first_cell x = if x.is_array then cell.Array [] else cell.Value (first_value x.t
 abbrev pub first_main : Main
 first_main = record { position = 1; current = None; named = false; ended = false; failed = false }
 
-abbrev pub first_kept : List GlobalName → Kept
-first_kept names = record {
+abbrev pub first_kept : Numbers → List GlobalName → Kept
+first_kept numbers names = record {
+  numbers = numbers;
   cells = map first_cell names;
   frame = [];
   depth = 0;
@@ -78,8 +82,8 @@ abbrev pub with_own : Own → Value → Kept → Kept
 with_own name x kept = record kept { cells = change_at (given_value x) kept.cells (slot_of name) }
 
 -- the number of a counter and 1 more
-abbrev pub counted : Value → Result ℤ Fault
-counted x = number_of x >>= λ n. add n (pos 1)
+abbrev pub counted : Numbers → Value → Result Number Fault
+counted numbers x = number_of numbers x >>= λ n. add numbers n (Whole (pos 1))
 
 abbrev pub with_array : Reference → Array → Kept → Kept
 with_array (Shared k) a kept = record kept { cells = change_at (given_array a) kept.cells k }
@@ -94,10 +98,10 @@ Puts at key x Holds = (new : Array) × (put (unwrap_or at []) key x ≡ Ok new) 
 abbrev pub PutsNot : Option Array → Text → Value → Fault → Type 0
 PutsNot at key x e = (e ≡ NoMemory) ⊎ (put (unwrap_or at []) key x ≡ Err e)
 
--- an element that holds a number is given the sum of that and another one
-abbrev pub Adds : Option Array → Text → ℤ → (Array → Type 0) → Type 0
-Adds at key by Holds = (n : ℤ) × (m : ℤ) × (element (unwrap_or at []) key ≡ Some (v.Num n)) × (add n by ≡ Ok m)
-    × Puts at key (v.Num m) Holds
+-- an element that holds a whole number is given the sum of that and another one, which is whole
+abbrev pub Adds : Numbers → Option Array → Text → ℤ → (Array → Type 0) → Type 0
+Adds numbers at key by Holds = (n : ℤ) × (m : ℤ) × (element (unwrap_or at []) key ≡ Some (v.Num n))
+    × (add numbers (Whole n) (Whole by) ≡ Ok (Whole m)) × Puts at key (v.Num m) Holds
 
 -- ---- calls
 

@@ -1,6 +1,7 @@
 -- What a store holds, as plain data: the variables of the whole script by their slots, the parameters of the present
 -- call by their places, the record, and how far the run is.
 use Rattle.std.specs.Prelude.{ℕ, ◌==◌, Bool, false, List, [], Option, Some, None, unwrap_or, slice_get}
+use Rattle.awk_numbers.specs.declared.number.Numbers.{Numbers}
 use Rattle.awk_text.specs.declared.value.Value.{Value}
 use Rattle.awk_text.specs.declared.value.Value.TheVariants as v
 use Rattle.awk_text.specs.Values.{text_of}
@@ -20,6 +21,8 @@ use Rattle.awk_store.specs.declared.frame.Reference.TheVariants.{Shared, Made, N
 use Rattle.awk_store.specs.declared.phase.Phase.{Phase}
 
 pub record Kept : Type 0 where
+  -- which numbers the script has
+  pub numbers : Numbers
   -- the variables of the whole script
   pub cells : List Cell
   -- the parameters of the present call, how deep it is, and the arrays that calls have made

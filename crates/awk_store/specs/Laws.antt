@@ -133,4 +133,4 @@ texts_of names = map (λ n. n.text) names
 
 abbrev pub BeginsSo : Type 0
 BeginsSo = (g : Given) → IsOnce (texts_of g.program.variables) →
-    state (texts_of g.program.variables) (changes.first_kept g.program.variables) first_hidden ≡ first_state g
+    state (texts_of g.program.variables) (changes.first_kept g.numbers g.program.variables) first_hidden ≡ first_state g

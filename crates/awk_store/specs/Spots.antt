@@ -1,6 +1,7 @@
 -- What is read or set, as the code has it, and the target of the machine that it stands for.
 use Rattle.std.specs.Prelude.{◌≡◌, zero, suc, if◌then◌else◌}
-use Rattle.awk_text.specs.Values.{text_of, number_of}
+use Rattle.awk_numbers.specs.declared.number.Numbers.{Numbers}
+use Rattle.awk_text.specs.Values.{text_of}
 use Rattle.awk_text.specs.declared.value.Value.{Value}
 use Rattle.awk_text.specs.declared.value.Value.TheVariants as v
 use Rattle.awk_program.specs.Program as p
@@ -9,6 +10,7 @@ use Rattle.awk_machine.specs.Operators.{of_count}
 use Rattle.awk_machine.specs.Pieces as machine
 use Rattle.awk_machine.specs.Targets.{target, as_number}
 use Rattle.awk_store.specs.Kept as kept
+use Rattle.awk_store.specs.Numbers.{whole_number}
 use Rattle.awk_store.specs.declared.spot.Spot.{Spot}
 use Rattle.awk_store.specs.declared.spot.Spot.TheVariants as s
 
@@ -28,8 +30,8 @@ abbrev pub IsSpotOf : Names → p.Reference → Spot → Type 0
 IsSpotOf names r x = target r (value_of x) ≡ meant names x
 
 -- what is stored there: `$0` is always input, and NF always a number
-abbrev pub stored : Spot → Value → Value
-stored (s.Variable x) val = if kept.is_nf x then as_number (number_of val) else val
-stored (s.Element place x key) val = val
-stored (s.Field zero) val = v.Input (text_of val)
-stored (s.Field (suc n)) val = val
+abbrev pub stored : Numbers → Spot → Value → Value
+stored numbers (s.Variable x) val = if kept.is_nf x then as_number (whole_number numbers val) else val
+stored numbers (s.Element place x key) val = val
+stored numbers (s.Field zero) val = v.Input (text_of val)
+stored numbers (s.Field (suc n)) val = val

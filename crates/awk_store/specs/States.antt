@@ -53,6 +53,7 @@ pub record Hidden : Type 0 where
 
 abbrev pub state : List Text → Kept → Hidden → State
 state names kept hidden = record {
+  numbers = kept.numbers;
   values = values_of names kept.cells;
   arrays = arrays_of names kept.cells;
   locals = map (bound_of names) kept.frame;

@@ -19,12 +19,13 @@ use crate::store::Store;
 use awk_hash::Seed;
 use awk_lib::array::Array;
 use awk_lib::key::Key;
+use awk_numbers::number::Numbers;
 use awk_program::Variable;
+use awk_text::buffer::Buffer;
 use awk_text::fault::Fault;
 use awk_text::octets::Octets;
 use awk_text::texts::MOST_BYTES;
 use awk_text::value::Value;
-use itoa::Buffer;
 use std::alloc::Global;
 use std::mem;
 
@@ -174,26 +175,33 @@ fn remove_made(made: &mut Vec<Array<Value>>, place: usize, key: &[u8])
 }
 
 /// Adds to the number that an element of the array at a slot holds, where it holds one, and answers whether it did.
-fn add_in_cells(cells: &mut Vec<Cell>, slot: usize, key: &[u8], by: i64) -> bool
+fn add_in_cells(numbers: Numbers, cells: &mut Vec<Cell>, slot: usize, key: &[u8], by: i64) -> bool
     ensures done { result ≡ true →
-        Adds (listed (slice_get cells.old.items slot)) key.now by
+        Adds numbers (listed (slice_get cells.old.items slot)) key.now by
         (λ new. cells.new.items ≡ change_at (given_array new) cells.old.items slot) }
     ensures not_done { result ≡ false → cells.new.items ≡ cells.old.items }
 {
     match cells.get_mut(slot) {
-        Some(cell) => cell.add_to(key, by),
+        Some(cell) => cell.add_to(numbers, key, by),
         None => false,
     }
 }
 
 /// The same among the arrays that calls have made.
-fn add_in_made(made: &mut Vec<Array<Value>>, place: usize, key: &[u8], by: i64) -> bool
+fn add_in_made(
+    numbers: Numbers,
+    made: &mut Vec<Array<Value>>,
+    place: usize,
+    key: &[u8],
+    by: i64,
+) -> bool
     ensures done { result ≡ true →
-        Adds (slice_get made.old.items place) key.now by (λ new. made.new.items ≡ slice_set made.old.items place new) }
+        Adds numbers (slice_get made.old.items place) key.now by
+        (λ new. made.new.items ≡ slice_set made.old.items place new) }
     ensures not_done { result ≡ false → made.new.items ≡ made.old.items }
 {
     match made.get_mut(place) {
-        Some(elements) => add_in(elements, key, by),
+        Some(elements) => add_in(numbers, elements, key, by),
         None => false,
     }
 }
@@ -257,27 +265,39 @@ fn put_number_made(
 }
 
 /// `add_in_cells`, of the element whose key is the digits of a number.
-fn add_number_in_cells(cells: &mut Vec<Cell>, slot: usize, number: usize, by: i64) -> bool
+fn add_number_in_cells(
+    numbers: Numbers,
+    cells: &mut Vec<Cell>,
+    slot: usize,
+    number: usize,
+    by: i64,
+) -> bool
     ensures done { result ≡ true →
-        Adds (listed (slice_get cells.old.items slot)) (decimal number) by
+        Adds numbers (listed (slice_get cells.old.items slot)) (decimal number) by
         (λ new. cells.new.items ≡ change_at (given_array new) cells.old.items slot) }
     ensures not_done { result ≡ false → cells.new.items ≡ cells.old.items }
 {
     match cells.get_mut(slot) {
-        Some(cell) => cell.add_to_number(number, by),
+        Some(cell) => cell.add_to_number(numbers, number, by),
         None => false,
     }
 }
 
 /// `add_in_made`, of the element whose key is the digits of a number.
-fn add_number_in_made(made: &mut Vec<Array<Value>>, place: usize, number: usize, by: i64) -> bool
+fn add_number_in_made(
+    numbers: Numbers,
+    made: &mut Vec<Array<Value>>,
+    place: usize,
+    number: usize,
+    by: i64,
+) -> bool
     ensures done { result ≡ true →
-        Adds (slice_get made.old.items place) (decimal number) by
+        Adds numbers (slice_get made.old.items place) (decimal number) by
         (λ new. made.new.items ≡ slice_set made.old.items place new) }
     ensures not_done { result ≡ false → made.new.items ≡ made.old.items }
 {
     match made.get_mut(place) {
-        Some(elements) => add_in_number(elements, number, by),
+        Some(elements) => add_in_number(numbers, elements, number, by),
         None => false,
     }
 }
@@ -410,13 +430,20 @@ impl Store {
     /// number, or the sum is out of range, nothing changes. Takes no memory.
     pub fn add_to(&mut self, name: Variable, key: &[u8], by: i64) -> bool
         ensures done { result ≡ true →
-            Adds (Some (array self.old name)) key.now by
+            Adds self.old.numbers (Some (array self.old name)) key.now by
             (λ new. self.new ≡ with_array (reference self.old name) new self.old) }
         ensures not_done { result ≡ false → self.new ≡ self.old }
     {
+        let numbers = self.numbers;
         match self.reference(name) {
-            Reference::Shared(slot) => add_in_cells(&mut self.cells, slot as usize, key, by),
-            Reference::Made(place) => add_in_made(&mut self.made, place as usize, key, by),
+            Reference::Shared(slot) => add_in_cells(
+                numbers,
+                &mut self.cells,
+                slot as usize,
+                key,
+                by,
+            ),
+            Reference::Made(place) => add_in_made(numbers, &mut self.made, place as usize, key, by),
             Reference::Nothing => false,
         }
     }
@@ -446,16 +473,17 @@ impl Store {
     /// As `add_to`, where the key is the digits of a number.
     pub fn add_to_number(&mut self, name: Variable, number: usize, by: i64) -> bool
         ensures done { result ≡ true →
-            Adds (Some (array self.old name)) (decimal number) by
+            Adds self.old.numbers (Some (array self.old name)) (decimal number) by
             (λ new. self.new ≡ with_array (reference self.old name) new self.old) }
         ensures not_done { result ≡ false → self.new ≡ self.old }
     {
+        let numbers = self.numbers;
         match self.reference(name) {
             Reference::Shared(slot) => {
-                add_number_in_cells(&mut self.cells, slot as usize, number, by)
+                add_number_in_cells(numbers, &mut self.cells, slot as usize, number, by)
             }
             Reference::Made(place) => {
-                add_number_in_made(&mut self.made, place as usize, number, by)
+                add_number_in_made(numbers, &mut self.made, place as usize, number, by)
             }
             Reference::Nothing => false,
         }
@@ -466,11 +494,11 @@ impl Store {
     pub fn add_at_field(&mut self, name: Variable, n: u16, by: i64) -> bool
         ensures done { result ≡ true → (key : Value) × IsValueAt self.old.row n key
             × (length (text_of key) ≤ most_bytes)
-            × Adds (Some (array self.old name)) (text_of key) by
+            × Adds self.old.numbers (Some (array self.old name)) (text_of key) by
             (λ new. self.new ≡ with_array (reference self.old name) new self.old) }
         ensures not_done { result ≡ false → self.new ≡ self.old }
     {
-        let at = self.reference(name);
+        let (numbers, at) = (self.numbers, self.reference(name));
         let Some(field) = self.row.lent(n) else {
             return false;
         };
@@ -480,8 +508,14 @@ impl Store {
             return false;
         }
         match at {
-            Reference::Shared(slot) => add_in_cells(&mut self.cells, slot as usize, key, by),
-            Reference::Made(place) => add_in_made(&mut self.made, place as usize, key, by),
+            Reference::Shared(slot) => add_in_cells(
+                numbers,
+                &mut self.cells,
+                slot as usize,
+                key,
+                by,
+            ),
+            Reference::Made(place) => add_in_made(numbers, &mut self.made, place as usize, key, by),
             Reference::Nothing => false,
         }
     }

@@ -3,6 +3,7 @@ ghost use Rattle.std.specs.Prelude.{[], ◌≡◌, ℤ, pos, Some, Ok, true, fal
 ghost use Rattle.std.specs.Prelude.{IfOk, IfErr, OnOk, IsOkUnless};
 ghost use Rattle.std.specs.Fmt.{decimal};
 ghost use Rattle.std.specs.Option.{option_copied};
+ghost use Rattle.awk_numbers.specs.declared.number.Number.TheVariants.{Whole};
 ghost use Rattle.awk_text.specs.Arithmetic.{add};
 ghost use Rattle.awk_lib.specs.Arrays.{element, without};
 ghost use Rattle.awk_machine.specs.Begins.{first_value};
@@ -12,6 +13,7 @@ ghost use Rattle.awk_store.specs.Filled.{Fills};
 use crate::filling::{counted, fill_with};
 use awk_hash::Seed;
 use awk_lib::array::Array;
+use awk_numbers::number::{Number, Numbers};
 use awk_program::GlobalName;
 use awk_text::arithmetic::add;
 use awk_text::fault::Fault;
@@ -106,15 +108,16 @@ impl Cell {
         }
     }
 
-    /// Adds 1 to the number that it holds, where it holds one and the sum is in range, and answers whether it did.
+    /// Adds 1 to the whole number that it holds, where it holds one and the sum is whole, and answers whether it did.
     #[inline(always)]
-    pub(crate) fn add_one(&mut self) -> bool
+    pub(crate) fn add_one(&mut self, numbers: Numbers) -> bool
         ensures done { result ≡ true → (n : ℤ) × (m : ℤ) × (scalar (Some self.old) ≡ Some (Value.Num n))
-            × (add n (pos 1) ≡ Ok m) × (self.new ≡ given_value (Value.Num m) self.old) }
+            × (add numbers (Whole n) (Whole (pos 1)) ≡ Ok (Whole m))
+            × (self.new ≡ given_value (Value.Num m) self.old) }
         ensures not_done { result ≡ false → self.new ≡ self.old }
     {
         match self {
-            Cell::Value(value) => add_value(value, 1),
+            Cell::Value(value) => add_value(numbers, value, 1),
             Cell::Array(_) => false,
         }
     }
@@ -156,14 +159,14 @@ impl Cell {
     }
 
     /// Adds to the number that an element of the array holds, and answers whether it did.
-    pub(crate) fn add_to(&mut self, key: &[u8], by: i64) -> bool
+    pub(crate) fn add_to(&mut self, numbers: Numbers, key: &[u8], by: i64) -> bool
         ensures done { result ≡ true →
-            Adds (listed (Some self.old)) key.now by (λ new. self.new ≡ given_array new self.old) }
+            Adds numbers (listed (Some self.old)) key.now by (λ new. self.new ≡ given_array new self.old) }
         ensures not_done { result ≡ false → self.new ≡ self.old }
     {
         match self {
             Cell::Value(_) => false,
-            Cell::Array(array) => add_in(array, key, by),
+            Cell::Array(array) => add_in(numbers, array, key, by),
         }
     }
 
@@ -181,14 +184,14 @@ impl Cell {
     }
 
     /// Adds to the number that the element holds whose key is the digits of a number, and answers whether it did.
-    pub(crate) fn add_to_number(&mut self, number: usize, by: i64) -> bool
+    pub(crate) fn add_to_number(&mut self, numbers: Numbers, number: usize, by: i64) -> bool
         ensures done { result ≡ true →
-            Adds (listed (Some self.old)) (decimal number) by (λ new. self.new ≡ given_array new self.old) }
+            Adds numbers (listed (Some self.old)) (decimal number) by (λ new. self.new ≡ given_array new self.old) }
         ensures not_done { result ≡ false → self.new ≡ self.old }
     {
         match self {
             Cell::Value(_) => false,
-            Cell::Array(array) => add_in_number(array, number, by),
+            Cell::Array(array) => add_in_number(numbers, array, number, by),
         }
     }
 
@@ -240,38 +243,43 @@ pub(crate) fn share_in(
 }
 
 /// Adds to the number that an element holds, where it holds one, and answers whether it did.
-pub(crate) fn add_in(elements: &mut Array<Value>, key: &[u8], by: i64) -> bool
-    ensures done { result ≡ true → Adds (Some elements.old) key.now by (λ new. elements.new ≡ new) }
+pub(crate) fn add_in(numbers: Numbers, elements: &mut Array<Value>, key: &[u8], by: i64) -> bool
+    ensures done { result ≡ true → Adds numbers (Some elements.old) key.now by (λ new. elements.new ≡ new) }
     ensures not_done { result ≡ false → elements.new ≡ elements.old }
 {
     match elements.get_mut(key) {
-        Some(value) => add_value(value, by),
+        Some(value) => add_value(numbers, value, by),
         None => false,
     }
 }
 
 /// The same of the element whose key is the digits of a number.
-pub(crate) fn add_in_number(elements: &mut Array<Value>, number: usize, by: i64) -> bool
-    ensures done { result ≡ true → Adds (Some elements.old) (decimal number) by (λ new. elements.new ≡ new) }
+pub(crate) fn add_in_number(
+    numbers: Numbers,
+    elements: &mut Array<Value>,
+    number: usize,
+    by: i64,
+) -> bool
+    ensures done { result ≡ true → Adds numbers (Some elements.old) (decimal number) by (λ new. elements.new ≡ new) }
     ensures not_done { result ≡ false → elements.new ≡ elements.old }
 {
     match elements.get_number_mut(number) {
-        Some(value) => add_value(value, by),
+        Some(value) => add_value(numbers, value, by),
         None => false,
     }
 }
 
-/// Adds to the number that a value is, where it is one, and answers whether it did.
+/// Adds to the whole number that a value is, where it is one and the sum is whole, and answers whether it did.
 #[inline(always)]
-fn add_value(value: &mut Value, by: i64) -> bool
-    ensures done { result ≡ true → (n : ℤ) × (m : ℤ) × (value.old ≡ Value.Num n) × (add n by ≡ Ok m)
-        × (value.new ≡ Value.Num m) }
+fn add_value(numbers: Numbers, value: &mut Value, by: i64) -> bool
+    ensures done { result ≡ true → (n : ℤ) × (m : ℤ) × (value.old ≡ Value.Num n)
+        × (add numbers (Whole n) (Whole by) ≡ Ok (Whole m)) × (value.new ≡ Value.Num m) }
     ensures not_done { result ≡ false → value.new ≡ value.old }
 {
     let Value::Num(number) = value else {
         return false;
     };
-    let Ok(sum) = add(*number, by) else {
+    let Ok(Number::Whole(sum)) = add(numbers, Number::Whole(*number), Number::Whole(by)) else {
         return false;
     };
     *number = sum;

@@ -61,7 +61,7 @@ pub fn exit_with(store: &mut Store, place: Place, value: &Value) -> Halt
     ensures { (g : Given) (t : Table) (x : Expression) →
         Jumps g (At (Doing (p.exit place (Some x))) (value.now ∷ [])) (store.old, t) result (store.new, t) }
 {
-    match exit_status(value) {
+    match exit_status(store.numbers(), value) {
         Ok(status) => {
             store.unwind();
             store.set_status(status);

@@ -20,11 +20,11 @@ use crate::variables::{own_bytes, own_text};
 use awk_fields::Splitter;
 use awk_program::Own;
 use awk_text::Memory;
+use awk_text::buffer::Buffer;
 use awk_text::fault::Fault;
 use awk_text::lent::Lent;
 use awk_text::octets::Octets;
 use awk_text::value::Value;
-use itoa::Buffer;
 use std::alloc::Global;
 
 /// Whether the text of one of awk's own variables is empty.

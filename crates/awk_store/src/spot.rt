@@ -1,8 +1,8 @@
 // What is read or set.
 use awk_program::Variable;
+use awk_text::buffer::Buffer;
 use awk_text::place::Place;
 use awk_text::value::{Value, text_in};
-use itoa::Buffer;
 use std::marker::Model;
 
 /// The key of an element: the text of a value.

@@ -12,6 +12,7 @@ use crate::separators::Separators;
 use awk_fields::Record;
 use awk_hash::Seed;
 use awk_lib::array::Array;
+use awk_numbers::number::Numbers;
 use awk_program::GlobalName;
 use awk_text::Memory;
 use awk_text::fault::Fault;
@@ -26,6 +27,8 @@ pub struct Store {
     pub(crate) alloc: Global,
     /// What the arrays hash by
     pub(crate) seed: Seed,
+    /// Which numbers the script has
+    pub(crate) numbers: Numbers,
     /// The variables of the whole script, by their slots
     pub(crate) cells: Vec<Cell>,
     /// The parameters of the present call
@@ -52,6 +55,7 @@ impl Model for Store {
     ghost use Rattle.awk_store.specs.Inputs.{main_of};
 
     ghost view = { λ s. record {
+      numbers = s.numbers;
       cells = s.cells.items;
       frame = s.frame.items;
       depth = s.depth;
@@ -67,16 +71,23 @@ impl Model for Store {
 }
 
 impl Store {
-    /// What a run begins with, for a script with these variables. Its arrays hash by this seed.
+    /// What a run begins with, for a script with these variables and numbers of this profile. Its arrays hash by this
+    /// seed.
     ///
     /// Fails with `Fault::Memory` alone, where memory is refused.
-    pub fn new(alloc: Global, seed: Seed, names: &[GlobalName]) -> Result<Store, Fault>
-        ensures ok { IfOk result (λ store. store ≡ first_kept names.now) }
+    pub fn new(
+        alloc: Global,
+        seed: Seed,
+        numbers: Numbers,
+        names: &[GlobalName],
+    ) -> Result<Store, Fault>
+        ensures ok { IfOk result (λ store. store ≡ first_kept numbers names.now) }
         ensures err { IsOkUnless result Fault.Memory }
     {
         Ok(Store {
             alloc,
             seed,
+            numbers,
             cells: first_cells(alloc, seed, names)?,
             frame: Vec::new(alloc),
             depth: 0,
@@ -90,6 +101,14 @@ impl Store {
             status: None,
             used: 0,
         })
+    }
+
+    /// Which numbers the script has.
+    #[inline(always)]
+    pub fn numbers(&self) -> Numbers
+        ensures { result ≡ self.now.numbers }
+    {
+        self.numbers
     }
 
     /// The part of the program that runs.

@@ -3,6 +3,7 @@ ghost use Rattle.awk_machine.specs.Pieces.{Do, Get, Set, give};
 ghost use Rattle.awk_machine.specs.State.{Given};
 ghost use Rattle.awk_machine.specs.Targets as machine;
 ghost use Rattle.awk_store.specs.Acts.{Acts, Passes};
+ghost use Rattle.awk_store.specs.Numbers.{whole_number};
 ghost use Rattle.awk_store.specs.Spots as spec;
 ghost use Rattle.awk_store.specs.Spots.{meant};
 ghost use Rattle.awk_store.specs.Wholes.{names_in};
@@ -13,15 +14,17 @@ ghost use Rattle.std.specs.Prelude.{IfOk, IfSome, ◌≡◌};
 
 use crate::elements::{read_element, set_element};
 use crate::fields::{read_field, set_field};
+use crate::numbers::whole_number;
 use crate::spot::Spot;
 use crate::variables::{read_variable, replace_variable, set_variable};
 use crate::{Store, is_nf};
+use awk_numbers::number::Numbers;
 use awk_streams::halt::Halt;
+use awk_text::buffer::Buffer;
 use awk_text::fault::Fault;
 use awk_text::octets::Octets;
 use awk_text::place::Place;
-use awk_text::value::{Value, number_of, text_in, text_of};
-use itoa::Buffer;
+use awk_text::value::{Value, text_in, text_of};
 use std::alloc::Global;
 
 /// Reads it.
@@ -106,29 +109,33 @@ pub fn replace(
     Ok(store.take_room())
 }
 
-/// The number of a value, as a value.
-fn as_number(value: &Value) -> Value
-    ensures { result ≡ machine.as_number (values.number_of value.now) }
+/// The number of a value without its fraction, as a value; an unset one where 64 bits can't hold it.
+fn as_number(numbers: Numbers, value: &Value) -> Value
+    ensures { result ≡ machine.as_number (whole_number numbers value.now) }
 {
-    match number_of(value) {
+    match whole_number(numbers, value) {
         Ok(number) => Value::Num(number),
         Err(_) => Value::Unset,
     }
 }
 
-/// What the target holds once the value is set there: `$0` is always input, and NF always a number. A long text is
-/// shared.
+/// What the target holds once the value is set there: `$0` is always input, and NF always a whole number. A long text
+/// is shared.
 ///
 /// Fails where memory is refused.
-/// Fails where memory is refused.
-pub fn stored(alloc: Global, target: &Spot, value: &mut Value) -> Result<Value, Fault>
-    ensures ok { IfOk result (λ x. x ≡ spec.stored target.now value.old) }
+pub fn stored(
+    alloc: Global,
+    numbers: Numbers,
+    target: &Spot,
+    value: &mut Value,
+) -> Result<Value, Fault>
+    ensures ok { IfOk result (λ x. x ≡ spec.stored numbers target.now value.old) }
     ensures same { value.new ≡ value.old }
 {
     match target {
         Spot::Variable(variable) => {
             if is_nf(*variable) {
-                Ok(as_number(value))
+                Ok(as_number(numbers, value))
             } else {
                 value.share(alloc)
             }

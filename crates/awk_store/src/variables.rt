@@ -2,6 +2,8 @@
 ghost use Rattle.awk_machine.specs.Pieces as machine;
 ghost use Rattle.awk_machine.specs.Pieces.{Do, Get, Set, give};
 ghost use Rattle.awk_machine.specs.State.{Given};
+ghost use Rattle.awk_numbers.specs.declared.number.Number.{Number as Num};
+ghost use Rattle.awk_numbers.specs.declared.number.Number.TheVariants.{Whole};
 ghost use Rattle.awk_program.specs.Slots.{slot_of};
 ghost use Rattle.awk_program.specs.View.{variable_of};
 ghost use Rattle.awk_store.specs.Acts.{Acts};
@@ -12,21 +14,23 @@ ghost use Rattle.awk_store.specs.Wholes.{names_in};
 ghost use Rattle.awk_streams.specs.Tables.{Table};
 ghost use Rattle.awk_streams.specs.Tasks.{goes_on};
 ghost use Rattle.awk_text.specs.Arithmetic.{add as sum};
-ghost use Rattle.awk_text.specs.Values.{text_of};
+ghost use Rattle.awk_text.specs.Values.{of_number, text_of};
 ghost use Rattle.std.specs.Option.{option_copied};
 ghost use Rattle.std.specs.Prelude.{Err, IfErr, IfOk, IfSome, Ok, OnOk, false, pos, slice_get, slice_set, true};
 ghost use Rattle.std.specs.Prelude.{unwrap_or, ℤ, ◌≡◌};
 
 use crate::cell::Cell;
 use crate::frame::Bound;
+use crate::numbers::whole_number;
 use crate::store::Store;
+use awk_numbers::number::{Number, Numbers};
 use awk_program::{Own, Variable};
 use awk_streams::halt::{Halt, at};
 use awk_text::arithmetic::add;
+use awk_text::buffer::Buffer;
 use awk_text::fault::Fault;
 use awk_text::place::Place;
 use awk_text::value::{Value, number_of, text_in};
-use itoa::Buffer;
 use std::alloc::Global;
 use std::mem;
 
@@ -90,19 +94,20 @@ pub(crate) fn own_bytes(cells: &[Cell], name: Own) -> Option<&[u8]>
 {
     match value_at(cells, name.slot() as usize)? {
         Value::Text(text) | Value::Input(text) => Some(text.bytes()),
-        Value::Unset | Value::Num(_) => None,
+        Value::Unset | Value::Num(_) | Value::Real(_) => None,
     }
 }
 
-/// Adds 1 to the number at a slot, where one is there and the sum is in range, and answers whether it did.
+/// Adds 1 to the whole number at a slot, where one is there and the sum is whole, and answers whether it did.
 #[inline(always)]
-fn add_one(cells: &mut Vec<Cell>, slot: usize) -> bool
+fn add_one(numbers: Numbers, cells: &mut Vec<Cell>, slot: usize) -> bool
     ensures done { result ≡ true → (n : ℤ) × (m : ℤ) × (value_at cells.old.items slot ≡ Value.Num n)
-        × (sum n (pos 1) ≡ Ok m) × (cells.new.items ≡ change_at (given_value (Value.Num m)) cells.old.items slot) }
+        × (sum numbers (Whole n) (Whole (pos 1)) ≡ Ok (Whole m))
+        × (cells.new.items ≡ change_at (given_value (Value.Num m)) cells.old.items slot) }
     ensures not_done { result ≡ false → cells.new.items ≡ cells.old.items }
 {
     match cells.get_mut(slot) {
-        Some(cell) => cell.add_one(),
+        Some(cell) => cell.add_one(numbers),
         None => false,
     }
 }
@@ -254,10 +259,12 @@ impl Store {
     #[inline(always)]
     pub fn count(&mut self, name: Own) -> Result<(), Fault>
         ensures ok { OnOk result
-            ((n : ℤ) × (counted (own_value self.old name) ≡ Ok n) × (self.new ≡ with_own name (Value.Num n) self.old)) }
-        ensures err { IfErr result (λ e. (counted (own_value self.old name) ≡ Err e) × (self.new ≡ self.old)) }
+            ((n : Num) × (counted self.old.numbers (own_value self.old name) ≡ Ok n)
+            × (self.new ≡ with_own name (of_number n) self.old)) }
+        ensures err { IfErr result
+            (λ e. (counted self.old.numbers (own_value self.old name) ≡ Err e) × (self.new ≡ self.old)) }
     {
-        if add_one(&mut self.cells, name.slot() as usize) {
+        if add_one(self.numbers, &mut self.cells, name.slot() as usize) {
             return Ok(());
         }
         self.count_any(name)
@@ -267,15 +274,17 @@ impl Store {
     #[inline(never)]
     fn count_any(&mut self, name: Own) -> Result<(), Fault>
         ensures ok { OnOk result
-            ((n : ℤ) × (counted (own_value self.old name) ≡ Ok n) × (self.new ≡ with_own name (Value.Num n) self.old)) }
-        ensures err { IfErr result (λ e. (counted (own_value self.old name) ≡ Err e) × (self.new ≡ self.old)) }
+            ((n : Num) × (counted self.old.numbers (own_value self.old name) ≡ Ok n)
+            × (self.new ≡ with_own name (of_number n) self.old)) }
+        ensures err { IfErr result
+            (λ e. (counted self.old.numbers (own_value self.old name) ≡ Err e) × (self.new ≡ self.old)) }
     {
         let number = match self.own(name) {
-            Some(value) => number_of(value)?,
-            None => 0,
+            Some(value) => number_of(self.numbers, value)?,
+            None => Number::Whole(0),
         };
-        let sum = add(number, 1)?;
-        self.set_own(name, Value::Num(sum));
+        let sum = add(self.numbers, number, Number::Whole(1))?;
+        self.set_own(name, Value::of(sum));
         Ok(())
     }
 }
@@ -306,13 +315,13 @@ pub fn read_variable(store: &mut Store, variable: Variable) -> Result<Value, Hal
     Ok(value)
 }
 
-/// Sets NF to the number of a value.
+/// Sets NF to the number of a value, without its fraction.
 fn set_count(store: &mut Store, place: Place, value: &Value) -> Result<(), Halt>
     ensures { (g : Given) (t : Table) (x : Variable) → kept.is_nf x ≡ true →
         Acts g (Do (Set (machine.Variable (variable_of (names_in g) x)) place value.now)) goes_on (store.old, t) result
         (store.new, t) }
 {
-    let count = at(place, number_of(value))?;
+    let count = at(place, whole_number(store.numbers(), value))?;
     at(place, store.set_field_count(count))
 }
 
@@ -320,7 +329,7 @@ fn set_count(store: &mut Store, place: Place, value: &Value) -> Result<(), Halt>
 fn into_room(alloc: Global, value: Value) -> Vec<u8> {
     match value {
         Value::Text(text) | Value::Input(text) => text.into_room(alloc),
-        Value::Unset | Value::Num(_) => Vec::new(alloc),
+        Value::Unset | Value::Num(_) | Value::Real(_) => Vec::new(alloc),
     }
 }
 

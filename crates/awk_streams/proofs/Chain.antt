@@ -24,6 +24,7 @@ use Rattle.awk_program.specs.Program as p
 use Rattle.awk_program.specs.Program.{Expression, Terms}
 use Rattle.awk_machine.specs.Forms.{value}
 use Rattle.awk_machine.specs.Operators.{compared, computed}
+use Rattle.awk_numbers.specs.declared.number.Numbers.{Numbers}
 use Rattle.awk_streams.specs.declared.halt.Halt.{Halt}
 use Rattle.awk_streams.specs.declared.halt.Halt.TheVariants as halt
 use Rattle.awk_streams.specs.Chains.{Follows, Ended, at, Comes, Halted, Leads, Meets, halt_by}
@@ -402,13 +403,13 @@ passes {r = r} h m = passes-at r h m
 
 module _ {W St H : Type 0} {ghosts : Ghosts W} {base : St → H → State} {Ag : St → H → Course → Type 0} {used : St
     → ℕ} {g : Given} where
-  compare : (how : Comparison) (x y : Expression) (v w : Value) (old mid new : St) (a b c : W)
-      → Meets ghosts base Ag used g (value x) give old a (Ok v) mid b →
+  compare : (numbers : Numbers) (how : Comparison) (x y : Expression) (v w : Value) (old mid new : St) (a b c : W)
+      → ((hid : H) → (base new hid).numbers ≡ numbers) → Meets ghosts base Ag used g (value x) give old a (Ok v) mid b →
       Meets ghosts base Ag used g (value y) give mid b (Ok w) new c
-      → Meets ghosts base Ag used g (value (p.compare how x y)) give old a (Ok (compared how v w)) new c
-  compare how x y v w old mid new a b c left right =
+      → Meets ghosts base Ag used g (value (p.compare how x y)) give old a (Ok (compared numbers how v w)) new c
+  compare numbers how x y v w old mid new a b c its left right =
       done (quiet (part w (quiet (part v (quiet (at_once _ old a) (λ k hid c. refl)) left refl) (λ k hid c. refl)) right
-      refl) (λ k hid c. refl))
+      refl) (λ k hid c. rw (its hid) refl))
 
   compare-halts : (how : Comparison) (x y : Expression) (v : Value) (h : Halt) (old mid new : St) (a b c : W)
       → Meets ghosts base Ag used g (value x) give old a (Ok v) mid b →
@@ -418,10 +419,12 @@ module _ {W St H : Type 0} {ghosts : Ghosts W} {base : St → H → State} {Ag :
       stop h (λ k. refl) (quiet (part v (quiet (at_once _ old a) (λ k hid c. refl)) left refl) (λ k hid c. refl)) right
       refl
 
-  term : (how : Operator) (place : Place) (y : Expression) (xs : Terms) (v w : Value) (fault : Fault) (old new : St)
-      (a b : W) → Meets ghosts base Ag used g (value y) give old a (Ok w) new b →
-      computed how v w ≡ Err fault → Meets ghosts base Ag used g (At (Terms_of (p.term how place y xs)) (v ∷ [])) give
-      old a (Err (halt.Fault fault place)) new b
-  term how place y xs v w fault old new a b right e =
+  term : (numbers : Numbers) (how : Operator) (place : Place) (y : Expression) (xs : Terms) (v w : Value)
+      (fault : Fault) (old new : St) (a b : W) → ((hid : H) → (base new hid).numbers ≡ numbers)
+      → Meets ghosts base Ag used g (value y) give old a (Ok w) new b →
+      computed numbers how v w ≡ Err fault
+      → Meets ghosts base Ag used g (At (Terms_of (p.term how place y xs)) (v ∷ [])) give old a
+      (Err (halt.Fault fault place)) new b
+  term numbers how place y xs v w fault old new a b its right e =
       closed (quiet {then_ = λ k. ends (Faulted fault place)} (part w (quiet (at_once _ old a) (λ k hid c. refl)) right
-      refl) (λ k hid c. rw e refl))
+      refl) (λ k hid c. rw (its hid, e) refl))

@@ -8,7 +8,9 @@ use Rattle.awk_text.specs.declared.place.Place.{Place}
 use Rattle.awk_text.specs.declared.value.Value.{Value}
 use Rattle.awk_text.specs.declared.value.Value.TheVariants.{Num}
 use Rattle.awk_fields.specs.Takes.{Input}
-use Rattle.awk_text.specs.Values.{truth}
+use Rattle.awk_numbers.specs.declared.number.Number.TheVariants.{Whole}
+use Rattle.awk_numbers.specs.declared.number.Numbers.{Numbers}
+use Rattle.awk_numbers.specs.Operators.{truth}
 use Rattle.box_world.specs.Calls.{IsStream, numbers_after}
 use Rattle.box_world.specs.declared.ask.Reply.{Reply}
 use Rattle.box_world.specs.declared.ask.Reply.TheVariants as reply
@@ -252,12 +254,13 @@ module _ {W : Type 0} {ghosts : Ghosts W} (laws : Laws ghosts) (g : Given) (s : 
       → ℕ) (co : Course) → first_of text table.entries ≡ Some (c, n) → IsTable table taken co →
       advance g (Do (Close place text so_far) ∷ k) (seen (beside s table taken) co)
       ≡ Asks (want place (Shuts (Named c text)))
-      (λ r. Do (Close place text (Some (first_answer so_far (shut_answer r)))) ∷ k) (seen (beside s table taken) co)
+      (λ r. Do (Close place text (Some (first_answer s.numbers so_far (shut_answer r)))) ∷ k)
+      (seen (beside s table taken) co)
   close_asks so_far k c n table taken co h a =
       ap (λ o. held g (seen (beside s table taken) co)
       (close_by place text so_far o k (seen (beside s table taken) co))) (at_first c n table taken co h a)
       ∙ ap (λ o. asked_by (if is_some o then None else Some reply.Failed) (want place (Shuts (Named c text)))
-      (λ r. Do (Close place text (Some (first_answer so_far (shut_answer r)))) ∷ k)
+      (λ r. Do (Close place text (Some (first_answer s.numbers so_far (shut_answer r)))) ∷ k)
       (seen (beside s table taken) co)) (found_at c n table taken co h a)
 
   pub close_one : {p : Piece} {old : Table} {first : W} (so_far : Option Value) (table new : Table) (c : Class) (n : ℕ)
@@ -267,9 +270,9 @@ module _ {W : Type 0} {ghosts : Ghosts W} (laws : Laws ghosts) (g : Given) (s : 
       Leads ghosts (beside s) IsTable (λ t. s.course.used) g p old first (λ k. Do (Close place text so_far) ∷ k)
       table w →
       Leads ghosts (beside s) IsTable (λ t. s.course.used) g p old first
-      (λ k. Do (Close place text (Some (first_answer so_far (shut_answer r)))) ∷ k) new w'
+      (λ k. Do (Close place text (Some (first_answer s.numbers so_far (shut_answer r)))) ∷ k) new w'
   close_one so_far table new c n r w w' h es same x lead =
-      asked {then_ = λ k r. Do (Close place text (Some (first_answer so_far (shut_answer r)))) ∷ k}
+      asked {then_ = λ k r. Do (Close place text (Some (first_answer s.numbers so_far (shut_answer r)))) ∷ k}
       (want place (Shuts (Named c text))) (record { place = place; given = false; request = request.Shut n }) r laws
       refl lead
       (λ begin k taken co led a. (
@@ -291,7 +294,7 @@ module _ {W : Type 0} {ghosts : Ghosts W} (laws : Laws ghosts) (g : Given) (s : 
       Meets ghosts (beside s) IsTable (λ t. s.course.used) g p on old first (Err h) table w'
   close_refused so_far table c n h w w' e x lead =
       rw x.is (unanswered {q = λ k. Do (Close place text so_far)} {to = λ k. k} {then_ =
-      λ k r. Do (Close place text (Some (first_answer so_far (shut_answer r)))) ∷ k}
+      λ k r. Do (Close place text (Some (first_answer s.numbers so_far (shut_answer r)))) ∷ k}
       (want place (Shuts (Named c text))) (record { place = place; given = false; request = request.Shut n }) x.by
       laws lead
       (λ k taken co a. (
@@ -327,16 +330,16 @@ shut_so reply.End = refl
 shut_so (reply.Value b) = refl
 shut_so reply.Failed = refl
 
-first_so : (so_far : Option ℤ) (n : ℤ) → first_answer (option_map (λ k. Num k) so_far) (Num n)
-    ≡ Num (first_status so_far n)
-first_so None n = refl
-first_so (Some m) n = by (truth (Num m))
+first_so : (numbers : Numbers) (so_far : Option ℤ) (n : ℤ)
+    → first_answer numbers (option_map (λ k. Num k) so_far) (Num n) ≡ Num (first_status so_far n)
+first_so numbers None n = refl
+first_so numbers (Some m) n = by (truth (Whole m))
   where
     by : (b : Bool) → (if b then Num m else Num n) ≡ Num (if b then m else n)
     by true = refl
     by false = refl
 
-pub next_so : (so_far : Option ℤ) (n m : ℤ) (r : Reply) → n ≡ shut_status r → m ≡ first_status so_far n
-    → first_answer (option_map (λ k. Num k) so_far) (shut_answer r) ≡ Num m
-next_so so_far n m r e f = ap (first_answer (option_map (λ k. Num k) so_far)) (shut_so r ∙ ap Num (sym e))
-    ∙ first_so so_far n ∙ ap Num (sym f)
+pub next_so : (numbers : Numbers) (so_far : Option ℤ) (n m : ℤ) (r : Reply) → n ≡ shut_status r → m
+    ≡ first_status so_far n → first_answer numbers (option_map (λ k. Num k) so_far) (shut_answer r) ≡ Num m
+next_so numbers so_far n m r e f = ap (first_answer numbers (option_map (λ k. Num k) so_far))
+    (shut_so r ∙ ap Num (sym e)) ∙ first_so numbers so_far n ∙ ap Num (sym f)

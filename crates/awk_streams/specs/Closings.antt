@@ -2,8 +2,8 @@
 use Rattle.std.specs.Prelude.{◌≡◌, ℕ, ℤ, pos, negsuc, ◌&&◌, if◌then◌else◌, List, [], ◌∷◌, Option, Some, None, Result}
 use Rattle.std.specs.Prelude.{Ok, Err}
 use Rattle.std.specs.Str.{bytes_eq}
-use Rattle.awk_text.specs.Values.{truth}
-use Rattle.awk_text.specs.declared.value.Value.TheVariants.{Num}
+use Rattle.awk_numbers.specs.declared.number.Number.TheVariants.{Whole}
+use Rattle.awk_numbers.specs.Operators.{truth}
 use Rattle.box_world.specs.declared.ask.Ask.{Ask}
 use Rattle.box_world.specs.declared.ask.Reply.{Reply}
 use Rattle.box_world.specs.declared.ask.Reply.TheVariants as reply
@@ -30,7 +30,7 @@ shut_status other = negsuc 0
 -- the first that is not 0, where the one comes behind the others
 abbrev pub first_status : Option ℤ → ℤ → ℤ
 first_status None y = y
-first_status (Some x) y = if truth (Num x) then x else y
+first_status (Some x) y = if truth (Whole x) then x else y
 
 -- the world was asked, and the status is what its reply means
 abbrev pub Shuts : {W : Type 0} → Ghosts W → Ask → W → Result ℤ Halt → W → Type 0

@@ -55,7 +55,7 @@ loop-class-preserved g c =
           c.loop-class.streams c.remove.new.self (kind c.in-Some.class) c.in-Some.number a.0 _ _ (sym first) es
           c.remove.ensures.input a.1 (c.loop-class.invariant.0 m s))
           (λ k. ap (λ x. Do (Close c.args.place c.args.text.now (Some x)) ∷ k)
-          (next_so c.loop-class.answer c.in_ok-status.status c.first_status.result a.0 a.2
+          (next_so s.numbers c.loop-class.answer c.in_ok-status.status c.first_status.result a.0 a.2
           (rw (to_z-of_z w64 c.in_ok-status.status (search rules)) at c.first_status.ensures)))),
       owns_closed _ _ c.args.text.now (kind c.in-Some.class) c.in-Some.number a.0 c.loop-class.streams c.remove.new.self
           (sym first) es c.in_ok-status.ensures.numbers c.loop-class.invariant.1,
