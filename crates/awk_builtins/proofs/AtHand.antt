@@ -6,8 +6,11 @@ use Rattle.std.proofs.lemmas.Fmt.{length-decimal-le}
 use Rattle.std.specs.Fmt.{decimal}
 use Rattle.std.specs.Int.{FitsUnsignedBits}
 use Rattle.std.specs.Prelude.{Bool, ℤ, pos, negsuc, nat_abs, Option, Some, Result, Ok}
+use Rattle.awk_numbers.specs.declared.number.Number.{Number}
+use Rattle.awk_numbers.specs.declared.number.Number.TheVariants as number
+use Rattle.awk_numbers.specs.declared.number.Numbers.{Numbers}
 use Rattle.awk_text.specs.Limits.{most_bytes}
-use Rattle.awk_text.specs.Values.{number_of, numeric, text_of, truth}
+use Rattle.awk_text.specs.Values.{number_of, numeric, of_number, text_of, truth}
 use Rattle.awk_text.specs.declared.place.Place.{Place}
 use Rattle.awk_text.specs.declared.value.Value.{Value}
 use Rattle.awk_text.specs.declared.value.Value.TheVariants as v
@@ -55,9 +58,9 @@ pub on : {g : Given} {p q : Piece} {old mid new : Whole} {to then_ : List Piece 
 on {then_ = then_} h m = doing (tt {0}) h (done {on = λ (u : Unit {0}). then_} m) refl
 
 -- what counts as a number is compared as one
-alike : (how : Comparison) (a b : ℤ) (val : Value) → numeric val ≡ Some b
-    → compared how (v.Num a) val ≡ compared how (v.Num a) (v.Num b)
-alike how a b val e = rw e refl
+alike : (numbers : Numbers) (how : Comparison) (a b : ℤ) (val : Value) → numeric numbers val ≡ Some (number.Whole b)
+    → compared numbers how (v.Num a) val ≡ compared numbers how (v.Num a) (v.Num b)
+alike numbers how a b val e = rw e refl
 
 module _ (g : Given) (w : Whole) where
   -- ---- what is read or set
@@ -73,7 +76,7 @@ module _ (g : Given) (w : Whole) where
       (at_rest _ w) (λ k hid d a. refl)) h) (λ k hid d a. rw (ap limited (nil_right (text_of sub)) ∙ is) refl)
 
   pub field_spot : (place : Place) (e : Expression) (sub : Value) (n : ℕ) → Passes g (value e) w (give sub) w
-      → number_of sub ≡ Ok (pos n) → n ≤ 65535 →
+      → number_of w.0.numbers sub ≡ Ok (number.Whole (pos n)) → n ≤ 65535 →
       Passes g (spot (p.field place e)) w (give (v.Num (pos n))) w
   field_spot place e sub n h is fits =
       moves (on (moves {then_ = λ k. value e ∷ At (Target_of (p.field place e)) [] ∷ k} (at_rest _ w)
@@ -90,7 +93,7 @@ module _ (g : Given) (w : Whole) where
 
   -- ---- what is there
 
-  pub number_there : (n : ℤ) → Passes g (value (p.number n)) w (give (v.Num n)) w
+  pub number_there : (n : Number) → Passes g (value (p.number n)) w (give (of_number n)) w
   number_there n = moves (at_rest _ w) (λ k hid d a. refl)
 
   pub text_there : (x : Text) → Passes g (value (p.text x)) w (give (v.Text x)) w
@@ -116,14 +119,14 @@ module _ (g : Given) (w : Whole) where
       (reads_element g w x key place val has)
 
   pub field_there : (place : Place) (e : Expression) (sub : Value) (n : ℕ) (val : Value)
-      → Passes g (value e) w (give sub) w → number_of sub ≡ Ok (pos n) → n ≤ 65535 → IsValueAt w.0.row n val →
-      Passes g (value (p.read (p.field place e))) w (give val) w
+      → Passes g (value e) w (give sub) w → number_of w.0.numbers sub ≡ Ok (number.Whole (pos n)) → n ≤ 65535 →
+      IsValueAt w.0.row n val → Passes g (value (p.read (p.field place e))) w (give val) w
   field_there place e sub n val h is fits at =
       reads (p.field place e) (v.Num (pos n)) val (field_spot place e sub n h is fits)
       (reads_field g w n w.0 val fits refl (inl refl) (n, small n fits, at))
 
   pub comparison_there : (how : _) (x y : Expression) (a b : Value) → Passes g (value x) w (give a) w
-      → Passes g (value y) w (give b) w → Passes g (value (p.compare how x y)) w (give (compared how a b)) w
+      → Passes g (value y) w (give b) w → Passes g (value (p.compare how x y)) w (give (compared w.0.numbers how a b)) w
   comparison_there how x y a b h m =
       let part : Part = Value_of (p.compare how x y) in
       moves (on (moves {then_ = λ k. value y ∷ At part (a ∷ []) ∷ k}
@@ -131,9 +134,11 @@ module _ (g : Given) (w : Whole) where
       m) (λ k hid d a. refl)
 
   pub numbers_compared : (how : Comparison) (x y : Expression) (a b : ℤ) (val : Value)
-      → Passes g (value x) w (give (v.Num a)) w → Passes g (value y) w (give val) w → numeric val ≡ Some b →
-      Passes g (value (p.compare how x y)) w (give (compared how (v.Num a) (v.Num b))) w
-  numbers_compared how x y a b val h m is = rw (alike how a b val is) at (comparison_there how x y (v.Num a) val h m)
+      → Passes g (value x) w (give (v.Num a)) w → Passes g (value y) w (give val) w →
+      numeric w.0.numbers val ≡ Some (number.Whole b)
+      → Passes g (value (p.compare how x y)) w (give (compared w.0.numbers how (v.Num a) (v.Num b))) w
+  numbers_compared how x y a b val h m is = rw (alike w.0.numbers how a b val is) at
+      (comparison_there how x y (v.Num a) val h m)
 
   -- ---- chains
 
@@ -143,7 +148,8 @@ module _ (g : Given) (w : Whole) where
       h
 
   terms_next : {from : Piece} (how : Operator) (place : Place) (y : Expression) (xs : Terms) (val z : Value) (a b c : ℤ)
-      → number_of val ≡ Ok a → number_of z ≡ Ok b → operation how a b ≡ Ok c →
+      → number_of w.0.numbers val ≡ Ok (number.Whole a) → number_of w.0.numbers z ≡ Ok (number.Whole b)
+      → operation w.0.numbers how (number.Whole a) (number.Whole b) ≡ Ok (number.Whole c) →
       Passes g (value y) w (give z) w → Passes g from w (λ k. At (Terms_of (p.term how place y xs)) (val ∷ []) ∷ k) w
       → Passes g from w (λ k. At (Terms_of xs) (v.Num c ∷ []) ∷ k) w
   terms_next how place y xs val z a b c first second made h from =
@@ -155,8 +161,9 @@ module _ (g : Given) (w : Whole) where
   waiting xs n val k = At (Terms_of (terms_of (map (view_term (names_in g)) (drop n xs)))) (val ∷ []) ∷ k
 
   pub terms_at : {from : Piece} (xs : List (Term Expr)) (i : ℕ) (x : Term Expr) (val z : Value) (a b c : ℤ)
-      → i < length xs → x ≡ get_or xs i x → number_of val ≡ Ok a → number_of z ≡ Ok b
-      → operation x.operator a b ≡ Ok c →
+      → i < length xs → x ≡ get_or xs i x → number_of w.0.numbers val ≡ Ok (number.Whole a)
+      → number_of w.0.numbers z ≡ Ok (number.Whole b)
+      → operation w.0.numbers x.operator (number.Whole a) (number.Whole b) ≡ Ok (number.Whole c) →
       Passes g (value (view (names_in g) x.operand)) w (give z) w → Passes g from w (waiting xs i val) w
       → Passes g from w (waiting xs (i + 1) (v.Num c)) w
   terms_at xs i x val z a b c inside is first second made h from =
@@ -214,6 +221,6 @@ pub line_told : (line : Option Text) (text key : Text) → line ≡ written (Som
 line_told line text key is told = sym (within_held text) ∙ ap within (sym (written_held [] text)) ∙ ap within (sym is)
     ∙ told
 
-pub truth_back : (b : Bool) → truth (of_truth b) ≡ b
-truth_back true = refl
-truth_back false = refl
+pub truth_back : (numbers : Numbers) (b : Bool) → truth numbers (of_truth b) ≡ b
+truth_back numbers true = refl
+truth_back numbers false = refl

@@ -1,5 +1,5 @@
 -- What the machine does once the arguments of a built-in function are there.
-use Rattle.std.proofs.Common.{◌≡◌, sym, ap, ◌∙◌, List, ◌∷◌, length, reverse}
+use Rattle.std.proofs.Common.{◌≡◌, refl, sym, ap, ◌∙◌, List, ◌∷◌, length, reverse}
 use Rattle.std.specs.Prelude.{Result, Ok}
 use Rattle.awk_text.specs.declared.fault.Fault.{Fault}
 use Rattle.awk_text.specs.declared.place.Place.{Place}
@@ -40,11 +40,13 @@ module _ (g : Given) (w : Whole) (place : Place) (which : Builtin) (xs : Express
   comes e k s is = first k s ∙ ap (λ f. held g s (taking place f k s)) is
 
   -- what is made, or its fault
-  pub grants_made : (made : Result Value Fault) → ((s : State) → effect place which vs s ≡ Gives made)
+  pub grants_made : (made : Result Value Fault)
+      → ((s : State) → s.numbers ≡ w.0.numbers → effect place which vs s ≡ Gives made)
       → Grants g w calling place give made
-  grants_made made is k hid c a = comes (Gives made) k (seen (base g w hid) c) (is (seen (base g w hid) c))
+  grants_made made is k hid c a = comes (Gives made) k (seen (base g w hid) c) (is (seen (base g w hid) c) refl)
 
-  pub gives_made : (made : Result Value Fault) → ((s : State) → effect place which vs s ≡ Gives made)
+  pub gives_made : (made : Result Value Fault)
+      → ((s : State) → s.numbers ≡ w.0.numbers → effect place which vs s ≡ Gives made)
       → Acts g calling give w (result_at place made) w
   gives_made made is = given_so g w calling place give made (grants_made made is)
 

@@ -1,6 +1,8 @@
 -- What forms of one value or two make.
 use Rattle.std.proofs.Common.{◌≡◌, ◌⊎◌, inl, inr, refl, ap, subst, ℤ, List, [], ◌∷◌}
 use Rattle.std.specs.Prelude.{ℕ, pos, nat_abs, Result, Ok, Err, IfOk, IfErr}
+use Rattle.awk_numbers.specs.declared.number.Number.{Number}
+use Rattle.awk_numbers.specs.declared.number.Numbers.{Numbers}
 use Rattle.awk_fields.specs.Rows.{place_of}
 use Rattle.awk_format.specs.Directives.{◌>>=◌}
 use Rattle.awk_text.specs.declared.fault.Fault.{Fault}
@@ -8,7 +10,8 @@ use Rattle.awk_text.specs.declared.fault.Fault.TheVariants as fault
 use Rattle.awk_text.specs.declared.place.Place.{Place}
 use Rattle.awk_text.specs.declared.value.Value.{Value}
 use Rattle.awk_text.specs.declared.value.Value.TheVariants as v
-use Rattle.awk_text.specs.Values.{number_of}
+use Rattle.awk_text.specs.Arithmetic.{whole_of}
+use Rattle.awk_text.specs.Values.{number_of, of_number}
 use Rattle.awk_program.specs.Program as p
 use Rattle.awk_program.specs.Program.{Reference}
 use Rattle.awk_program.specs.Slots.{Text}
@@ -20,13 +23,14 @@ use Rattle.awk_machine.specs.Operators.{computed, operation, stepped, of_count}
 use Rattle.awk_machine.specs.Pieces.{Piece, At, Value_of, Then, Goes, granted}
 use Rattle.awk_machine.specs.State.{State, Course, Given}
 use Rattle.awk_machine.specs.Streams.{seen}
+use Rattle.awk_machine.specs.Targets.{store, target}
 use Rattle.awk_store.specs.States.{Hidden}
 use Rattle.awk_store.specs.Wholes.{Whole, Agreeing, base}
 use Rattle.awk_streams.specs.Chains.{result_at}
 use Rattle.awk_store.specs.Acts.{Acts}
 use Rattle.awk_store.proofs.Acting.{at_rest, moves, done}
-use Rattle.awk_store.specs.Numbers.{as_value}
-use Rattle.awk_builtins.specs.Made.{as_text, both_numbers, of_both, stepping}
+use Rattle.awk_store.specs.Numbers.{valued}
+use Rattle.awk_builtins.specs.Made.{as_text, both_numbers, of_both, stepping, storing}
 use Rattle.awk_builtins.proofs.Granted.{given_or_lacks}
 
 abbrev value_ok : Value → Result Value Fault
@@ -66,27 +70,37 @@ as_text_so place (Err e) f k s = refl
 pub both_so : (place : Place) (how : Step) (taken : StepValue) (r : Reference) (at x : Value) (g : Given)
     (k : List Piece) (s : State) →
     advance g (At (Value_of (p.step place how taken r)) (x ∷ at ∷ []) ∷ k) s
-    ≡ held g s (granted place (both_numbers how x) (λ n k s. Goes (stepping place taken r at n k) s) k s)
-both_so place how taken r at x g k s = by_old (number_of x) refl
+    ≡ held g s (granted place (both_numbers s.numbers how x) (λ n k s. Goes (stepping place taken r at n k) s) k s)
+both_so place how taken r at x g k s = by_old (number_of s.numbers x) refl
   where
-    by_new : (old : ℤ) (new : Result ℤ Fault) → number_of x ≡ Ok old → stepped how old ≡ new →
+    by_new : (old : Number) (new : Result Number Fault) → number_of s.numbers x ≡ Ok old
+        → stepped s.numbers how old ≡ new →
         advance g (At (Value_of (p.step place how taken r)) (x ∷ at ∷ []) ∷ k) s
-        ≡ held g s (granted place (both_numbers how x) (λ n k s. Goes (stepping place taken r at n k) s) k s)
+        ≡ held g s (granted place (both_numbers s.numbers how x) (λ n k s. Goes (stepping place taken r at n k) s) k s)
     by_new old (Ok new) e f = rw (e, f) refl
     by_new old (Err met) e f = rw (e, f) refl
 
-    by_old : (old : Result ℤ Fault) → number_of x ≡ old →
+    by_old : (old : Result Number Fault) → number_of s.numbers x ≡ old →
         advance g (At (Value_of (p.step place how taken r)) (x ∷ at ∷ []) ∷ k) s
-        ≡ held g s (granted place (both_numbers how x) (λ n k s. Goes (stepping place taken r at n k) s) k s)
-    by_old (Ok old) e = by_new old (stepped how old) e refl
+        ≡ held g s (granted place (both_numbers s.numbers how x) (λ n k s. Goes (stepping place taken r at n k) s) k s)
+    by_old (Ok old) e = by_new old (stepped s.numbers how old) e refl
     by_old (Err met) e = rw e refl
 
 -- ---- what is computed
 
-pub number_so : (place : Place) (made : Result ℤ Fault) (f : Value → Then) (k : List Piece) (s : State)
-    → granted place (as_value made) f k s ≡ granted place made (λ n. f (v.Num n)) k s
+pub number_so : (place : Place) (made : Result Number Fault) (f : Value → Then) (k : List Piece) (s : State)
+    → granted place (valued made) f k s ≡ granted place made (λ n. f (of_number n)) k s
 number_so place (Ok n) f k s = refl
 number_so place (Err e) f k s = refl
+
+-- what is stored is what the state's profile makes of it
+pub storing_so : (numbers : Numbers) (place : Place) (made : Result Number Fault) (r : Reference) (at : Value)
+    (k : List Piece) (s : State) → s.numbers ≡ numbers
+    → granted place made (λ n. store (target r at) place (of_number n)) k s
+    ≡ granted place made (λ n k s. Goes (storing numbers place r at n k) s) k s
+storing_so numbers place (Ok n) r at k s e =
+    ap (λ (ns : Numbers). Goes (storing ns place r at n k) s) e
+storing_so numbers place (Err fault) r at k s e = refl
 
 -- ---- the number of a field
 
@@ -97,22 +111,29 @@ place_is (Ok n) z e = subst (λ y. pos (nat_abs y) ≡ y) (the_same n z e) refl
     the_same n z e = cc
 place_is (Err met) z e = absurd (cc)
 
--- it is at least 0
-pub field_is : (made : Result ℤ Fault) (z : ℤ) → (made >>= λ y. place_of y >>= λ n. Ok (of_count n)) ≡ Ok (v.Num z)
+whole_is : (made : Result ℤ Fault) (z : ℤ) → (made >>= λ y. place_of y >>= λ n. Ok (of_count n)) ≡ Ok (v.Num z)
     → pos (nat_abs z) ≡ z
-field_is (Ok y) z e = place_is (place_of y) z e
+whole_is (Ok y) z e = place_is (place_of y) z e
+whole_is (Err met) z e = absurd (cc)
+
+-- it is at least 0
+pub field_is : (made : Result Number Fault) (z : ℤ)
+    → (made >>= λ y. whole_of y >>= λ u. place_of u >>= λ n. Ok (of_count n)) ≡ Ok (v.Num z) → pos (nat_abs z) ≡ z
+field_is (Ok y) z e = whole_is (whole_of y) z e
 field_is (Err met) z e = absurd (cc)
 
 -- what is computed of two values is computed of their numbers
-pub computed_so : (how : Operator) (x y : Value) → computed how x y ≡ as_value (of_both how (number_of x) (number_of y))
-computed_so how x y = by_both (number_of x) (number_of y)
+pub computed_so : (numbers : Numbers) (how : Operator) (x y : Value) → computed numbers how x y
+    ≡ valued (of_both numbers how (number_of numbers x) (number_of numbers y))
+computed_so numbers how x y = by_both (number_of numbers x) (number_of numbers y)
   where
-    by_last : (made : Result ℤ Fault) → (made >>= λ z. value_ok (v.Num z)) ≡ as_value made
+    by_last : (made : Result Number Fault) → (made >>= λ z. value_ok (of_number z)) ≡ valued made
     by_last (Ok z) = refl
     by_last (Err e) = refl
 
-    by_both : (a b : Result ℤ Fault) → (a >>= λ m. b >>= λ n. operation how m n >>= λ z. value_ok (v.Num z))
-        ≡ as_value (of_both how a b)
+    by_both : (a b : Result Number Fault)
+        → (a >>= λ m. b >>= λ n. operation numbers how m n >>= λ z. value_ok (of_number z))
+        ≡ valued (of_both numbers how a b)
     by_both (Err e) b = refl
     by_both (Ok m) (Err e) = refl
-    by_both (Ok m) (Ok n) = by_last (operation how m n)
+    by_both (Ok m) (Ok n) = by_last (operation numbers how m n)

@@ -1,7 +1,9 @@
 -- Assignments whose parts are at hand: the target and the value are there, and the new value is stored.
 use Rattle.std.proofs.Common.{◌≡◌, refl, ℤ, false, [], ◌∷◌}
 use Rattle.std.specs.Prelude.{Some, Ok}
-use Rattle.awk_text.specs.Values.{number_of}
+use Rattle.awk_numbers.specs.declared.number.Number.{Number}
+use Rattle.awk_numbers.specs.declared.number.Number.TheVariants as number
+use Rattle.awk_text.specs.Values.{number_of, of_number}
 use Rattle.awk_text.specs.declared.place.Place.{Place}
 use Rattle.awk_text.specs.declared.value.Value.{Value}
 use Rattle.awk_text.specs.declared.value.Value.TheVariants as v
@@ -87,23 +89,26 @@ module _ (g : Given) (w : Whole) (new : Kept) (place : Place) (x : Variable) (n 
       (moves (assign_value g w (new, w.1) place named v.Unset (variable_spot g w x) e h)
       (λ k hid d a. rw (nf-so g w hid d a x, n) refl)) (set_variable val same)
 
-  pub changes_variable : (how : Operator) (e : Expression) (val : Value) (a b c : ℤ) → Passes g (value e) w (give val) w
-      → number_of (kept.value w.0 x) ≡ Ok a → number_of val ≡ Ok b → operation how a b ≡ Ok c →
-      new ≡ with_value x (v.Num c) w.0 → Passes g (value (p.change place how named e)) w (give (v.Num c)) (new, w.1)
+  pub changes_variable : (how : Operator) (e : Expression) (val : Value) (a b c : Number)
+      → Passes g (value e) w (give val) w → number_of w.0.numbers (kept.value w.0 x) ≡ Ok a
+      → number_of w.0.numbers val ≡ Ok b → operation w.0.numbers how a b ≡ Ok c →
+      new ≡ with_value x (of_number c) w.0
+      → Passes g (value (p.change place how named e)) w (give (of_number c)) (new, w.1)
   changes_variable how e val a b c h first second made same =
-      stores g w (new, w.1) place named v.Unset (variable_spot g w x) (v.Num c)
+      stores g w (new, w.1) place named v.Unset (variable_spot g w x) (of_number c)
       (moves (change_values g w (new, w.1) place named v.Unset (variable_spot g w x) e how h (reads_variable g w x n))
-      (λ k hid d ag. rw (first, second, made, nf-so g w hid d ag x, n) refl)) (set_variable (v.Num c) same)
+      (λ k hid d ag. rw (first, second, made, nf-so g w hid d ag x, n) refl)) (set_variable (of_number c) same)
 
-  pub steps_variable : (how : Step) (taken : StepValue) (a b : ℤ) → number_of (kept.value w.0 x) ≡ Ok a
-      → stepped how a ≡ Ok b → new ≡ with_value x (v.Num b) w.0 →
+  pub steps_variable : (how : Step) (taken : StepValue) (a b : Number)
+      → number_of w.0.numbers (kept.value w.0 x) ≡ Ok a → stepped w.0.numbers how a ≡ Ok b
+      → new ≡ with_value x (of_number b) w.0 →
       Passes g (value (p.step place how taken named)) w (give (either taken a b)) (new, w.1)
   steps_variable how taken a b first made same =
       moves (doing (tt {0})
-      (moves {then_ = λ k. Do (Set (machine.Variable (variable_of (names_in g) x)) place (v.Num b)) ∷ Do
+      (moves {then_ = λ k. Do (Set (machine.Variable (variable_of (names_in g) x)) place (of_number b)) ∷ Do
       (Give (either taken a b)) ∷ k}
       (step_value g w (new, w.1) place named v.Unset (variable_spot g w x) how taken (reads_variable g w x n))
-      (λ k hid d ag. rw (first, made) refl)) (set_variable (v.Num b) same) refl) (λ k hid d ag. refl)
+      (λ k hid d ag. rw (first, made) refl)) (set_variable (of_number b) same) refl) (λ k hid d ag. refl)
 
 -- an element
 module _ (g : Given) (w : Whole) (new : Kept) (place at_name : Place) (x : Variable) (keys : p.Expressions) (key : Text)
@@ -128,20 +133,23 @@ module _ (g : Given) (w : Whole) (new : Kept) (place at_name : Place) (x : Varia
       (puts : put (kept.array w.0 x) key (v.Num c) ≡ Ok made) (same : new ≡ with_array (kept.reference w.0 x) made w.0)
     where
       pub changes_element : (how : Operator) (e : Expression) (val : Value) (b : ℤ) → Passes g (value e) w (give val) w
-          → number_of val ≡ Ok b → operation how a b ≡ Ok c → Passes g (value (p.change place how element_named e)) w
-          (give (v.Num c)) (new, w.1)
+          → number_of w.0.numbers val ≡ Ok (number.Whole b)
+          → operation w.0.numbers how (number.Whole a) (number.Whole b) ≡ Ok (number.Whole c)
+          → Passes g (value (p.change place how element_named e)) w (give (v.Num c)) (new, w.1)
       changes_element how e val b h second is =
           stores g w (new, w.1) place element_named (v.Text key) there (v.Num c)
           (moves (change_values g w (new, w.1) place element_named (v.Text key) there e how h
           (reads_element g w x key at_name (v.Num a) has)) (λ k hid d ag. rw (second, is) refl))
           (set_element made (v.Num c) puts same)
 
-      pub steps_element : (how : Step) (taken : StepValue) → stepped how a ≡ Ok c
-          → Passes g (value (p.step place how taken element_named)) w (give (either taken a c)) (new, w.1)
+      pub steps_element : (how : Step) (taken : StepValue)
+          → stepped w.0.numbers how (number.Whole a) ≡ Ok (number.Whole c)
+          → Passes g (value (p.step place how taken element_named)) w
+          (give (either taken (number.Whole a) (number.Whole c))) (new, w.1)
       steps_element how taken is =
           moves (doing (tt {0})
           (moves {then_ = λ k. Do (Set (machine.Element (variable_of (names_in g) x) key at_name) place (v.Num c)) ∷
-          Do (Give (either taken a c)) ∷ k}
+          Do (Give (either taken (number.Whole a) (number.Whole c))) ∷ k}
           (step_value g w (new, w.1) place element_named (v.Text key) there how taken
           (reads_element g w x key at_name (v.Num a) has)) (λ k hid d ag. rw is refl))
           (set_element made (v.Num c) puts same) refl) (λ k hid d ag. refl)

@@ -30,7 +30,7 @@ there_of xs i x inside is = drop_more xs i x inside ∙ ap (λ y. y ∷ drop (i 
 
 module _ (g : Given) (w : Whole) where
   pub not_there : (x : Expression) (a : Value) → Passes g (value x) w (give a) w
-      → Passes g (value (p.not x)) w (give (of_truth (not (truth a)))) w
+      → Passes g (value (p.not x)) w (give (of_truth (not (truth w.0.numbers a)))) w
   not_there x a h =
       let part : Part = Value_of (p.not x) in
       moves (on (moves {then_ = λ k. value x ∷ At part [] ∷ k} (at_rest _ w) (λ k hid d a. refl)) h) (λ k hid d a. refl)
@@ -65,7 +65,7 @@ module _ (g : Given) (w : Whole) where
   and_first x xs a h = on (moves {then_ = λ k. value x ∷ At (Ands_of xs) [] ∷ k} (at_rest _ w) (λ k hid d a. refl)) h
 
   pub and_next : {from : Piece} (xs : List Expr) (i : ℕ) (x : Expr) (a b : Value) → i < length xs → x ≡ get_or xs i x
-      → truth a ≡ true → Passes g (value (view (names_in g) x)) w (give b) w →
+      → truth w.0.numbers a ≡ true → Passes g (value (view (names_in g) x)) w (give b) w →
       Passes g from w (ands xs i a) w → Passes g from w (ands xs (i + 1) b) w
   and_next xs i x a b inside is held h from =
       on (moves {then_ = λ k. value (view (names_in g) x) ∷ At
@@ -74,13 +74,13 @@ module _ (g : Given) (w : Whole) where
       (there_of xs i x inside is))) (λ k hid d ag. rw held refl)) h
 
   pub and_ends : {from : Piece} (xs : List Expr) (i : ℕ) (x : Expr) (a : Value) → i < length xs → x ≡ get_or xs i x
-      → truth a ≡ false → Passes g from w (ands xs i a) w → Passes g from w (give (of_truth false)) w
+      → truth w.0.numbers a ≡ false → Passes g from w (ands xs i a) w → Passes g from w (give (of_truth false)) w
   and_ends xs i x a inside is failed from =
       moves (reworded from (λ k. ap (λ ys. At (Ands_of (expressions_of (map (view (names_in g)) ys))) (a ∷ []) ∷ k)
       (there_of xs i x inside is))) (λ k hid d ag. rw failed refl)
 
   pub and_done : {from : Piece} (xs : List Expr) (i : ℕ) (a : Value) → length xs ≤ i → Passes g from w (ands xs i a) w
-      → Passes g from w (give (of_truth (truth a))) w
+      → Passes g from w (give (of_truth (truth w.0.numbers a))) w
   and_done xs i a past from =
       moves (reworded {then_ = λ k. At (Ands_of p.none) (a ∷ []) ∷ k} from
       (λ k. ap (λ ys. At (Ands_of (expressions_of (map (view (names_in g)) ys))) (a ∷ []) ∷ k)
@@ -96,7 +96,7 @@ module _ (g : Given) (w : Whole) where
   or_first x xs a h = on (moves {then_ = λ k. value x ∷ At (Ors_of xs) [] ∷ k} (at_rest _ w) (λ k hid d a. refl)) h
 
   pub or_next : {from : Piece} (xs : List Expr) (i : ℕ) (x : Expr) (a b : Value) → i < length xs → x ≡ get_or xs i x
-      → truth a ≡ false → Passes g (value (view (names_in g) x)) w (give b) w →
+      → truth w.0.numbers a ≡ false → Passes g (value (view (names_in g) x)) w (give b) w →
       Passes g from w (ors xs i a) w → Passes g from w (ors xs (i + 1) b) w
   or_next xs i x a b inside is failed h from =
       on (moves {then_ = λ k. value (view (names_in g) x) ∷ At
@@ -105,13 +105,13 @@ module _ (g : Given) (w : Whole) where
       (there_of xs i x inside is))) (λ k hid d ag. rw failed refl)) h
 
   pub or_ends : {from : Piece} (xs : List Expr) (i : ℕ) (x : Expr) (a : Value) → i < length xs → x ≡ get_or xs i x
-      → truth a ≡ true → Passes g from w (ors xs i a) w → Passes g from w (give (of_truth true)) w
+      → truth w.0.numbers a ≡ true → Passes g from w (ors xs i a) w → Passes g from w (give (of_truth true)) w
   or_ends xs i x a inside is held from =
       moves (reworded from (λ k. ap (λ ys. At (Ors_of (expressions_of (map (view (names_in g)) ys))) (a ∷ []) ∷ k)
       (there_of xs i x inside is))) (λ k hid d ag. rw held refl)
 
   pub or_done : {from : Piece} (xs : List Expr) (i : ℕ) (a : Value) → length xs ≤ i → Passes g from w (ors xs i a) w
-      → Passes g from w (give (of_truth (truth a))) w
+      → Passes g from w (give (of_truth (truth w.0.numbers a))) w
   or_done xs i a past from =
       moves (reworded {then_ = λ k. At (Ors_of p.none) (a ∷ []) ∷ k} from
       (λ k. ap (λ ys. At (Ors_of (expressions_of (map (view (names_in g)) ys))) (a ∷ []) ∷ k) (drop_all xs i past)))

@@ -1,6 +1,7 @@
 -- Expressions whose value is there: to evaluate them changes nothing and meets no fault; and assignments that are done
 -- at once.
 use Rattle.std.specs.Prelude.{◌≡◌, ◌<◌, ◌≤◌, ℕ, ℤ, Bool, false, true, Ok, Some, List, [], ◌∷◌, Option, length, map}
+use Rattle.awk_numbers.specs.declared.number.Number.TheVariants as number
 use Rattle.awk_fields.specs.Rows.{joined}
 use Rattle.awk_text.specs.Limits.{most_bytes}
 use Rattle.awk_text.specs.Values.{number_of, numeric, text_of, truth}
@@ -36,23 +37,23 @@ module _ (x : Names → Expression) where
     abbrev pub IsThere : Value → Type 0
     IsThere val = Gives val kept kept
 
-    -- a value with this number is there
+    -- a value with this number is there, by the store's profile
     pub record HasNumber (n : ℤ) : Type 0 where
       pub val : Value
-      pub is : number_of val ≡ Ok n
+      pub is : number_of kept.numbers val ≡ Ok (number.Whole n)
       pub there : IsThere val
 
     -- a value is there that is this number, and is compared and tested as it
     pub record CountsAs (n : ℤ) : Type 0 where
       pub val : Value
-      pub is : number_of val ≡ Ok n
-      pub looks : numeric val ≡ Some n
+      pub is : number_of kept.numbers val ≡ Ok (number.Whole n)
+      pub looks : numeric kept.numbers val ≡ Some (number.Whole n)
       pub there : IsThere val
 
     -- a value with this truth is there
     pub record HasTruth (b : Bool) : Type 0 where
       pub val : Value
-      pub is : truth val ≡ b
+      pub is : truth kept.numbers val ≡ b
       pub there : IsThere val
 
   -- the whole is done
@@ -105,4 +106,5 @@ pub record IsAtKey (what : Target Expr) (kept : Kept) (at_name : Place) (of_ : V
 pub record AddsAt (of_ : Variable) (keys : List Expr) (by_ : ℤ) (old new : Kept) : Type 0 where
   pub key : List ℕ
   pub is : IsKey keys old key
-  pub adds : Adds (Some (array old of_)) key by_ (λ elements. new ≡ with_array (reference old of_) elements old)
+  pub adds :
+      Adds old.numbers (Some (array old of_)) key by_ (λ elements. new ≡ with_array (reference old of_) elements old)

@@ -9,22 +9,32 @@ ghost use Rattle.awk_program.specs.View.{variable_of};
 ghost use Rattle.awk_store.specs.Acts.{Acts};
 ghost use Rattle.awk_store.specs.Wholes.{Whole, names_in};
 ghost use Rattle.awk_streams.specs.Tables.{Table};
-ghost use Rattle.awk_text.specs.Values.{number_of, text_of};
+ghost use Rattle.awk_text.specs.Values.{number_of, number_text, text_of};
 ghost use Rattle.awk_text.specs.declared.value.Value.{Value as Val};
 ghost use Rattle.std.specs.Prelude.{Err, IfErr, IfOk, List, Ok, [], map, ◌++◌, ◌∷◌, ◌≡◌, ◌⊎◌};
 
 use crate::made::{number_at, text_at};
 use crate::operators::{operation, truth_value};
+use awk_numbers::number::{Number, Numbers};
 use awk_program::{Operator, Variable};
 use awk_store::Store;
 use awk_streams::halt::Halt;
+use awk_text::buffer::Buffer;
 use awk_text::fault::Fault;
 use awk_text::octets::Octets;
 use awk_text::place::Place;
 use awk_text::texts::MOST_BYTES;
 use awk_text::value::{Value, number_of, text_in};
-use itoa::Buffer;
 use std::alloc::Global;
+
+/// The bytes of the text of a number.
+fn digits(alloc: Global, number: Number) -> Result<Vec<u8>, Fault>
+    ensures ok { IfOk result (λ bytes. bytes.items ≡ number_text number) }
+    ensures err { IfErr result (λ e. e ≡ Fault.Memory) }
+{
+    let mut buffer = Buffer::new();
+    Ok(Vec::from_slice(alloc, buffer.text(number))?)
+}
 
 /// The bytes of the text of a value, which is used up: a text gives its own.
 fn into_bytes(alloc: Global, value: Value) -> Result<Vec<u8>, Fault>
@@ -33,10 +43,8 @@ fn into_bytes(alloc: Global, value: Value) -> Result<Vec<u8>, Fault>
 {
     match value {
         Value::Unset => Ok(Vec::new(alloc)),
-        Value::Num(number) => {
-            let mut buffer = Buffer::new();
-            Ok(Vec::from_slice(alloc, buffer.format(number).as_bytes())?)
-        }
+        Value::Num(number) => digits(alloc, Number::Whole(number)),
+        Value::Real(number) => digits(alloc, Number::Real(number)),
         Value::Text(text) | Value::Input(text) => Ok(text.into_bytes(alloc)?),
     }
 }
@@ -61,26 +69,34 @@ pub fn concatenated(alloc: Global, first: Value, second: &Value) -> Result<Octet
 }
 
 /// What the operator gives at two numbers, the left one of which is looked at first.
-fn both(how: Operator, left: Result<i64, Fault>, right: Result<i64, Fault>) -> Result<i64, Fault>
-    ensures { result ≡ of_both how left right }
+fn both(
+    numbers: Numbers,
+    how: Operator,
+    left: Result<Number, Fault>,
+    right: Result<Number, Fault>,
+) -> Result<Number, Fault>
+    ensures { result ≡ of_both numbers how left right }
 {
     let first = left?;
     let second = right?;
-    operation(how, first, second)
+    operation(numbers, how, first, second)
 }
 
-/// One operand more, whose number is known, of a chain of `+` and `-`, or of `*`, `/` and `%`; or the one of `^`.
+/// One operand more, whose number is known, of a chain of `+` and `-`, or of `*`, `/` and `%`; or the one of `^`. It
+/// goes by the store's profile.
 pub fn operated(
+    numbers: Numbers,
     place: Place,
     how: Operator,
     left: &Value,
-    right: Result<i64, Fault>,
+    right: Result<Number, Fault>,
 ) -> Result<Value, Halt>
-    ensures { (g : Given) (w : Whole) (x : Expression) (xs : Terms) (r : Val) → right ≡ number_of r
-        → Acts g (At (Terms_of (p.term how place x xs)) (r ∷ left.now ∷ [])) (λ v k. At (Terms_of xs) (v ∷ []) ∷ k) w
+    ensures { (g : Given) (w : Whole) (x : Expression) (xs : Terms) (r : Val) → numbers ≡ w.0.numbers
+        → right ≡ number_of numbers r →
+        Acts g (At (Terms_of (p.term how place x xs)) (r ∷ left.now ∷ [])) (λ v k. At (Terms_of xs) (v ∷ []) ∷ k) w
         result w }
 {
-    number_at(place, both(how, number_of(left), right))
+    number_at(place, both(numbers, how, number_of(numbers, left), right))
 }
 
 /// One operand more of a concatenation.

@@ -16,23 +16,26 @@ ghost use Rattle.awk_streams.specs.Chains.{Meets};
 ghost use Rattle.awk_streams.specs.Tables.{Table, open_of};
 ghost use Rattle.awk_streams.specs.Tasks.{Owns};
 ghost use Rattle.awk_text.specs.Lents.{lent_value};
+ghost use Rattle.awk_store.specs.Numbers.{valued};
 ghost use Rattle.awk_text.specs.Values.{text_of};
 ghost use Rattle.std.specs.Prelude.{Err, IfErr, IfOk, IfSome, IsOkUnless, None, Ok, drop, length, reverse, ◌≡◌};
 
 use crate::made::{number_at, owned};
 use crate::printing::sprintf;
 use awk_lib::texts::{index, substr, to_case};
+use awk_numbers::number::{Number, Numbers};
 use awk_program::Builtin;
 use awk_streams::halt::Halt;
 use awk_streams::streams::Streams;
 use awk_streams::{closing, requests};
+use awk_text::arithmetic::{clamped, truncated};
+use awk_text::buffer::Buffer;
 use awk_text::fault::Fault;
 use awk_text::lent::Lent;
 use awk_text::octets::Octets;
 use awk_text::place::Place;
 use awk_text::value::{Value, number_of};
 use box_world::world::World;
-use itoa::Buffer;
 use std::alloc::Global;
 
 /// How many bytes the text of a value has. Takes no memory.
@@ -71,7 +74,7 @@ pub fn part_of<'a>(value: Lent<'a>, from: i64, count: Option<i64>) -> Option<Len
 {
     match value {
         Lent::Text(text) | Lent::Input(text) => Some(Lent::Text(substr(text, from, count))),
-        Lent::Unset | Lent::Num(_) => None,
+        Lent::Unset | Lent::Num(_) | Lent::Real(_) => None,
     }
 }
 
@@ -85,14 +88,24 @@ fn argument(args: &[Value], at: usize) -> Lent<'_>
     }
 }
 
-/// The number of the third argument, where there is one. Takes no memory.
+/// The number of a value without its fraction, by the profile. Takes no memory.
 ///
-/// Fails with `Fault::OutOfRange` where that is out of range.
-fn count_of(args: &[Value]) -> Result<Option<i64>, Fault>
-    ensures { result ≡ spec.count_of (drop 2 args.now) }
+/// Fails with `Fault::OutOfRange` where the number is out of range.
+fn whole_number<'a>(numbers: Numbers, value: Lent<'a>) -> Result<Number, Fault>
+    ensures { valued result ≡ spec.whole_number numbers (lent_value value.entry) }
+{
+    let number = value.number(numbers)?;
+    truncated(number)
+}
+
+/// The number of the third argument without its fraction, where there is one. Takes no memory.
+///
+/// Fails with `Fault::OutOfRange` where that number is out of range.
+fn count_of(numbers: Numbers, args: &[Value]) -> Result<Option<i64>, Fault>
+    ensures { result ≡ spec.count_of numbers (drop 2 args.now) }
 {
     match args {
-        [_, _, count, ..] => Ok(Some(number_of(count)?)),
+        [_, _, count, ..] => Ok(Some(clamped(number_of(numbers, count)?))),
         _ => Ok(None),
     }
 }
@@ -101,22 +114,27 @@ fn count_of(args: &[Value]) -> Result<Option<i64>, Fault>
 /// memory.
 ///
 /// Fails with `Fault::OutOfRange` where a number, of the place or of the count, is out of range.
-fn substr_of<'a>(args: &'a [Value], buffer: &'a mut Buffer) -> Result<&'a [u8], Fault>
-    ensures ok { IfOk result (λ text. spec.substr_of args.now ≡ Ok (Value.Text text.now)) }
-    ensures err { IfErr result (λ e. spec.substr_of args.now ≡ Err e) }
+fn substr_of<'a>(
+    numbers: Numbers,
+    args: &'a [Value],
+    buffer: &'a mut Buffer,
+) -> Result<&'a [u8], Fault>
+    ensures ok { IfOk result (λ text. spec.substr_of numbers args.now ≡ Ok (Value.Text text.now)) }
+    ensures err { IfErr result (λ e. spec.substr_of numbers args.now ≡ Err e) }
 {
-    let from = argument(args, 1).number()?;
-    let count = count_of(args)?;
-    Ok(substr(argument(args, 0).text(buffer), from, count))
+    let from = argument(args, 1).number(numbers)?;
+    let count = count_of(numbers, args)?;
+    Ok(substr(argument(args, 0).text(buffer), clamped(from), count))
 }
 
 /// What `substr ( text , place , count )` gives.
-fn substr_in(alloc: Global, place: Place, args: &[Value]) -> Result<Value, Halt>
-    ensures { (g : Given) (w : Whole) (xs : Expressions) → length (listed xs) ≡ length args.now
+fn substr_in(alloc: Global, numbers: Numbers, place: Place, args: &[Value]) -> Result<Value, Halt>
+    ensures { (g : Given) (w : Whole) (xs : Expressions) → numbers ≡ w.0.numbers
+        → length (listed xs) ≡ length args.now
         → Acts g (At (Value_of (p.builtin place b.Substr xs)) (reverse args.now)) give w result w }
 {
     let mut buffer = Buffer::new();
-    match substr_of(args, &mut buffer) {
+    match substr_of(numbers, args, &mut buffer) {
         Ok(text) => owned(alloc, text),
         Err(fault) => Err(Halt::at(place, fault)),
     }
@@ -179,9 +197,11 @@ fn run<'a, W: World>(
     requests::system(place, Octets::new(text), world)
 }
 
-/// What a built-in function gives for these arguments, of which those that are not there are unset.
+/// What a built-in function gives for these arguments, of which those that are not there are unset, by the store's
+/// profile.
 pub fn called<W: World>(
     alloc: Global,
+    numbers: Numbers,
     place: Place,
     which: Builtin,
     args: &[Value],
@@ -189,7 +209,8 @@ pub fn called<W: World>(
     world: &mut W,
 ) -> Result<Value, Halt>
     requires { Owns (W.open_numbers world.old) streams.old }
-    ensures task { (g : Given) (k : Kept) (xs : Expressions) → length (listed xs) ≡ length args.now
+    ensures task { (g : Given) (k : Kept) (xs : Expressions) → numbers ≡ k.numbers
+        → length (listed xs) ≡ length args.now
         → Meets W.World (base g) (Agreeing g) used g (At (Value_of (p.builtin place which xs)) (reverse args.now)) give
         (k, streams.old) world.old result (k, streams.new) world.new }
     ensures owns { Owns (W.open_numbers world.new) streams.new }
@@ -198,10 +219,10 @@ pub fn called<W: World>(
         Builtin::Close => close(place, argument(args, 0), streams, world),
         Builtin::Fflush => Ok(flush(argument(args, 0), streams)),
         Builtin::Index => Ok(Value::Num(index_of(argument(args, 0), argument(args, 1)))),
-        Builtin::Int => number_at(place, argument(args, 0).number()),
+        Builtin::Int => number_at(place, whole_number(numbers, argument(args, 0))),
         Builtin::Length => Ok(Value::Num(text_length(argument(args, 0)))),
-        Builtin::Sprintf => sprintf(alloc, place, args),
-        Builtin::Substr => substr_in(alloc, place, args),
+        Builtin::Sprintf => sprintf(alloc, numbers, place, args),
+        Builtin::Substr => substr_in(alloc, numbers, place, args),
         Builtin::System => run(alloc, place, argument(args, 0), world),
         Builtin::Tolower => in_case(alloc, argument(args, 0), false),
         Builtin::Toupper => in_case(alloc, argument(args, 0), true),

@@ -18,16 +18,17 @@ ghost use Rattle.std.specs.Prelude.{Err, IfErr, IfOk, IfSome, List, Ok, [], leng
 
 use crate::line::Line;
 use crate::printing::printed;
+use awk_numbers::number::Numbers;
 use awk_program::{Expr, Own, Variable};
 use awk_store::numbers::field_of;
 use awk_store::{ElementKey, Store};
 use awk_streams::halt::{Halt, at};
+use awk_text::buffer::Buffer;
 use awk_text::fault::Fault;
 use awk_text::octets::Octets;
 use awk_text::place::Place;
 use awk_text::texts::MOST_BYTES;
 use awk_text::value::{Value, text_in};
-use itoa::Buffer;
 use std::alloc::Global;
 
 /// The text of several subscripts: their texts with SUBSEP between. It is lent from the line, and stands there until
@@ -160,12 +161,12 @@ pub fn group_key(
     at(place, key(alloc, line, store, subscripts))
 }
 
-/// The number of a field that is read or set.
-pub fn field_number(place: Place, value: &Value) -> Result<u16, Halt>
-    ensures { (g : Given) (w : Whole) (x : Expression) →
+/// The number of a field that is read or set, by the store's profile.
+pub fn field_number(numbers: Numbers, place: Place, value: &Value) -> Result<u16, Halt>
+    ensures { (g : Given) (w : Whole) (x : Expression) → numbers ≡ w.0.numbers →
         Acts g (At (Target_of (p.field place x)) (value.now ∷ [])) (λ n. give (of_count n)) w result w }
 {
-    match field_of(value) {
+    match field_of(numbers, value) {
         Ok(number) => match u16::try_from(number) {
             Ok(number) => Ok(number),
             Err(_) => Err(Halt::Memory),

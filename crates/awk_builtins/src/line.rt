@@ -8,11 +8,11 @@ ghost use Rattle.std.specs.List.{flat_map};
 ghost use Rattle.std.specs.Prelude.{Err, IfErr, IfOk, List, Ok, OnOk, Some, [], ℕ, ◌++◌, ◌≡◌, ◌⊎◌};
 
 use awk_text::Memory;
+use awk_text::buffer::Buffer;
 use awk_text::fault::Fault;
 use awk_text::octets::Octets;
 use awk_text::texts::MOST_BYTES;
 use awk_text::value::{Value, text_in};
-use itoa::Buffer;
 use std::alloc::Global;
 use std::marker::Model;
 use std::mem;

@@ -6,12 +6,13 @@ ghost use Rattle.awk_program.specs.Program as p;
 ghost use Rattle.awk_program.specs.Program.{Expression, Reference};
 ghost use Rattle.awk_program.specs.declared.operators.StepValue.{StepValue};
 ghost use Rattle.awk_store.specs.Acts.{Acts};
-ghost use Rattle.awk_store.specs.Numbers.{as_value};
+ghost use Rattle.awk_store.specs.Numbers.{valued};
 ghost use Rattle.awk_store.specs.Wholes.{Whole};
 ghost use Rattle.awk_streams.specs.Chains.{result_at};
 ghost use Rattle.std.specs.Prelude.{IfErr, IfOk, OnOk, [], ◌++◌, ◌∷◌, ◌≡◌};
 
 use crate::operators::{computed, stepped};
+use awk_numbers::number::{Number, Numbers};
 use awk_program::{Operator, Step};
 use awk_streams::halt::{Halt, at};
 use awk_text::fault::Fault;
@@ -21,11 +22,11 @@ use awk_text::value::{Value, number_of};
 use std::alloc::Global;
 
 /// A number that was made at a place, as a value, or how the part ends. Takes no memory.
-pub fn number_at(place: Place, made: Result<i64, Fault>) -> Result<Value, Halt>
-    ensures { result ≡ result_at place (as_value made) }
+pub fn number_at(place: Place, made: Result<Number, Fault>) -> Result<Value, Halt>
+    ensures { result ≡ result_at place (valued made) }
 {
     match made {
-        Ok(number) => Ok(Value::Num(number)),
+        Ok(number) => Ok(Value::of(number)),
         Err(fault) => Err(Halt::at(place, fault)),
     }
 }
@@ -50,29 +51,43 @@ pub fn owned(alloc: Global, text: &[u8]) -> Result<Value, Halt>
 }
 
 /// The number of a value, and the one behind it or before it.
-fn steps_of(how: Step, value: &Value) -> Result<(i64, i64), Fault>
-    ensures { result ≡ both_numbers how value.now }
+fn steps_of(numbers: Numbers, how: Step, value: &Value) -> Result<(Number, Number), Fault>
+    ensures { result ≡ both_numbers numbers how value.now }
 {
-    let old = number_of(value)?;
-    let new = stepped(how, old)?;
+    let old = number_of(numbers, value)?;
+    let new = stepped(numbers, how, old)?;
     Ok((old, new))
 }
 
-/// The old number and the new one of `target ++` and `target --`, once the target was read. Takes no memory.
-pub fn stepped_at(place: Place, how: Step, value: &Value) -> Result<(i64, i64), Halt>
-    ensures { (g : Given) (w : Whole) (taken : StepValue) (r : Reference) (at : Value) →
-        Acts g (At (Value_of (p.step place how taken r)) (value.now ∷ at ∷ [])) (stepping place taken r at) w result w }
-{
-    at(place, steps_of(how, value))
-}
-
-/// The new number of `target += value`, and with the other operators, once the target was read. Takes no memory.
-pub fn computed_at(place: Place, how: Operator, old: &Value, operand: &Value) -> Result<i64, Halt>
-    ensures { (g : Given) (w : Whole) (r : Reference) (x : Expression) (at : Value) →
-        Acts g (At (Value_of (p.change place how r x)) (old.now ∷ operand.now ∷ at ∷ [])) (storing place r at) w result
+/// The old number and the new one of `target ++` and `target --`, by the store's profile, once the target was read.
+/// Takes no memory.
+pub fn stepped_at(
+    numbers: Numbers,
+    place: Place,
+    how: Step,
+    value: &Value,
+) -> Result<(Number, Number), Halt>
+    ensures { (g : Given) (w : Whole) (taken : StepValue) (r : Reference) (at : Value) → numbers ≡ w.0.numbers
+        → Acts g (At (Value_of (p.step place how taken r)) (value.now ∷ at ∷ [])) (stepping place taken r at) w result
         w }
 {
-    at(place, computed(how, old, operand))
+    at(place, steps_of(numbers, how, value))
+}
+
+/// The new number of `target += value`, and with the other operators, by the store's profile, once the target was read.
+/// Takes no memory.
+pub fn computed_at(
+    numbers: Numbers,
+    place: Place,
+    how: Operator,
+    old: &Value,
+    operand: &Value,
+) -> Result<Number, Halt>
+    ensures { (g : Given) (w : Whole) (r : Reference) (x : Expression) (at : Value) → numbers ≡ w.0.numbers
+        → Acts g (At (Value_of (p.change place how r x)) (old.now ∷ operand.now ∷ at ∷ [])) (storing numbers place r at)
+        w result w }
+{
+    at(place, computed(numbers, how, old, operand))
 }
 
 /// Adds a value behind the others.

@@ -7,11 +7,12 @@ ghost use Rattle.awk_store.specs.Kept.{Kept};
 ghost use Rattle.awk_store.specs.Wholes.{Agreeing, base, used};
 ghost use Rattle.awk_streams.specs.Chains.{Meets};
 ghost use Rattle.awk_streams.specs.Tasks.{Owns};
-ghost use Rattle.std.specs.Prelude.{[], ◌∷◌};
+ghost use Rattle.std.specs.Prelude.{[], ◌∷◌, ◌≡◌};
 
 use crate::functions::called;
 use crate::made::number_at;
 use crate::operators::{compared, signed, truth_value};
+use awk_numbers::number::Numbers;
 use awk_program::{Builtin, Comparison, Sign};
 use awk_streams::halt::Halt;
 use awk_streams::streams::Streams;
@@ -41,48 +42,52 @@ pub enum Binary {
 }
 
 impl Unary {
-    /// What the form gives for this value.
+    /// What the form gives for this value, by the store's profile.
     pub fn give<W: World>(
         self,
         alloc: Global,
+        numbers: Numbers,
         value: Value,
         streams: &mut Streams,
         world: &mut W,
     ) -> Result<Value, Halt>
         requires { Owns (W.open_numbers world.old) streams.old }
-        ensures task { (g : Given) (k : Kept) (x : Expression)
+        ensures task { (g : Given) (k : Kept) (x : Expression) → numbers ≡ k.numbers
             → Meets W.World (base g) (Agreeing g) used g (At (Value_of (unary_of self x)) (value ∷ [])) give
             (k, streams.old) world.old result (k, streams.new) world.new }
         ensures owns { Owns (W.open_numbers world.new) streams.new }
     {
         match self {
-            Unary::Not => Ok(truth_value(!truth(&value))),
-            Unary::Signed(place, how) => number_at(place, signed(how, &value)),
-            Unary::Builtin(place, which) => called(alloc, place, which, &[value], streams, world),
+            Unary::Not => Ok(truth_value(!truth(numbers, &value))),
+            Unary::Signed(place, how) => number_at(place, signed(numbers, how, &value)),
+            Unary::Builtin(place, which) => {
+                called(alloc, numbers, place, which, &[value], streams, world)
+            }
         }
     }
 }
 
 impl Binary {
-    /// What the form gives for these values.
+    /// What the form gives for these values, by the store's profile.
     pub fn give<W: World>(
         self,
         alloc: Global,
+        numbers: Numbers,
         left: Value,
         right: Value,
         streams: &mut Streams,
         world: &mut W,
     ) -> Result<Value, Halt>
         requires { Owns (W.open_numbers world.old) streams.old }
-        ensures task { (g : Given) (k : Kept) (x y : Expression)
+        ensures task { (g : Given) (k : Kept) (x y : Expression) → numbers ≡ k.numbers
             → Meets W.World (base g) (Agreeing g) used g (At (Value_of (binary_of self x y)) (right ∷ left ∷ [])) give
             (k, streams.old) world.old result (k, streams.new) world.new }
         ensures owns { Owns (W.open_numbers world.new) streams.new }
     {
         match self {
-            Binary::Compare(how) => Ok(truth_value(compared(how, &left, &right))),
+            Binary::Compare(how) => Ok(truth_value(compared(numbers, how, &left, &right))),
             Binary::Builtin(place, which) => {
-                called(alloc, place, which, &[left, right], streams, world)
+                called(alloc, numbers, place, which, &[left, right], streams, world)
             }
         }
     }

@@ -20,9 +20,9 @@ use crate::operators::truth_value;
 use awk_ere::Ere;
 use awk_store::Store;
 use awk_streams::halt::{Halt, at};
+use awk_text::buffer::Buffer;
 use awk_text::place::Place;
 use awk_text::value::{Value, text_in};
-use itoa::Buffer;
 use std::alloc::Global;
 use std::rc::Rc;
 

@@ -22,28 +22,29 @@ ghost use Rattle.std.specs.Prelude.{Err, IfErr, IfOk, List, None, Ok, Some, leng
 use crate::line::Line;
 use crate::made::text_at;
 use awk_format::format;
+use awk_numbers::number::Numbers;
 use awk_program::{Own, Redirection};
 use awk_store::Store;
 use awk_streams::halt::{Halt, at};
+use awk_text::buffer::Buffer;
 use awk_text::fault::Fault;
 use awk_text::octets::Octets;
 use awk_text::place::Place;
 use awk_text::texts::MOST_BYTES;
 use awk_text::value::{Value, text_in};
-use itoa::Buffer;
 use std::alloc::Global;
 
-/// The text that sprintf and printf make: the first value is the format, and an absent one is empty.
+/// The text that sprintf and printf make, by the profile: the first value is the format, and an absent one is empty.
 ///
 /// Fails as `awk_format::format` does.
-pub fn formatted_by(alloc: Global, values: &[Value]) -> Result<Vec<u8>, Fault>
-    ensures ok { IfOk result (λ text. spec.formatted_by values.now ≡ Ok text.items) }
-    ensures err { IfErr result (λ e. (e ≡ Fault.Memory) ⊎ (spec.formatted_by values.now ≡ Err e)) }
+pub fn formatted_by(alloc: Global, numbers: Numbers, values: &[Value]) -> Result<Vec<u8>, Fault>
+    ensures ok { IfOk result (λ text. spec.formatted_by numbers values.now ≡ Ok text.items) }
+    ensures err { IfErr result (λ e. (e ≡ Fault.Memory) ⊎ (spec.formatted_by numbers values.now ≡ Err e)) }
 {
     let mut buffer = Buffer::new();
     match values {
-        [] => format(alloc, &[], &[]),
-        [first, others @ ..] => format(alloc, text_in(first, &mut buffer), others),
+        [] => format(alloc, numbers, &[], &[]),
+        [first, others @ ..] => format(alloc, numbers, text_in(first, &mut buffer), others),
     }
 }
 
@@ -116,19 +117,25 @@ pub fn ended(line: &mut Line, whole: &[u8], ors: &[u8]) -> Result<Octets, Fault>
 }
 
 /// The text that a format and its values make.
-fn text_of_format(alloc: Global, values: &[Value]) -> Result<Octets, Fault>
-    ensures ok { IfOk result (λ text. spec.formatted_by values.now ≡ Ok text) }
-    ensures err { IfErr result (λ e. (e ≡ Fault.Memory) ⊎ (spec.formatted_by values.now ≡ Err e)) }
+fn text_of_format(alloc: Global, numbers: Numbers, values: &[Value]) -> Result<Octets, Fault>
+    ensures ok { IfOk result (λ text. spec.formatted_by numbers values.now ≡ Ok text) }
+    ensures err { IfErr result (λ e. (e ≡ Fault.Memory) ⊎ (spec.formatted_by numbers values.now ≡ Err e)) }
 {
-    Ok(Octets::new(formatted_by(alloc, values)?))
+    Ok(Octets::new(formatted_by(alloc, numbers, values)?))
 }
 
-/// What `sprintf ( format , list )` gives: the first value is the format.
-pub fn sprintf(alloc: Global, place: Place, values: &[Value]) -> Result<Value, Halt>
-    ensures { (g : Given) (w : Whole) (xs : Expressions) → length (listed xs) ≡ length values.now
+/// What `sprintf ( format , list )` gives by the store's profile: the first value is the format.
+pub fn sprintf(
+    alloc: Global,
+    numbers: Numbers,
+    place: Place,
+    values: &[Value],
+) -> Result<Value, Halt>
+    ensures { (g : Given) (w : Whole) (xs : Expressions) → numbers ≡ w.0.numbers
+        → length (listed xs) ≡ length values.now
         → Acts g (At (Value_of (p.builtin place b.Sprintf xs)) (reverse values.now)) give w result w }
 {
-    text_at(place, text_of_format(alloc, values))
+    text_at(place, text_of_format(alloc, numbers, values))
 }
 
 /// The text that print puts to the standard output.
@@ -145,12 +152,18 @@ pub fn printed_line(
     at(place, text_of_items(line, store, items))
 }
 
-/// The text that printf puts to the standard output: the first value is the format.
-pub fn formatted_line(alloc: Global, place: Place, values: &[Value]) -> Result<Octets, Halt>
-    ensures { (g : Given) (w : Whole) (x : Expression) (xs : List Expression) → length (x ∷ xs) ≡ length values.now
+/// The text that printf puts to the standard output, by the store's profile: the first value is the format.
+pub fn formatted_line(
+    alloc: Global,
+    numbers: Numbers,
+    place: Place,
+    values: &[Value],
+) -> Result<Octets, Halt>
+    ensures { (g : Given) (w : Whole) (x : Expression) (xs : List Expression) → numbers ≡ w.0.numbers
+        → length (x ∷ xs) ≡ length values.now
         → Acts g (At (Doing (p.printf place x xs None)) (reverse values.now)) (to_standard place) w result w }
 {
-    at(place, text_of_format(alloc, values))
+    at(place, text_of_format(alloc, numbers, values))
 }
 
 /// The text that print puts to the stream of this name.
@@ -168,17 +181,18 @@ pub fn printed_for(
     at(place, text_of_items(line, store, items))
 }
 
-/// The text that printf puts to the stream of this name: the first value is the format.
+/// The text that printf puts to the stream of this name, by the store's profile: the first value is the format.
 pub fn formatted_for(
     alloc: Global,
+    numbers: Numbers,
     place: Place,
     values: &[Value],
     name: &Value,
 ) -> Result<Octets, Halt>
     ensures { (g : Given) (w : Whole) (x : Expression) (xs : List Expression) (r : Redirection Expression) →
-        length (x ∷ xs) ≡ length values.now
+        numbers ≡ w.0.numbers → length (x ∷ xs) ≡ length values.now
         → Acts g (At (Doing (p.printf place x xs (Some r))) (name.now ∷ reverse values.now)) (to_stream r name.now) w
         result w }
 {
-    at(place, text_of_format(alloc, values))
+    at(place, text_of_format(alloc, numbers, values))
 }

@@ -24,11 +24,11 @@ use awk_store::targets::{lent, read, set};
 use awk_store::{Spot, Store};
 use awk_streams::halt::{Halt, at};
 use awk_text::Memory;
+use awk_text::buffer::Buffer;
 use awk_text::fault::Fault;
 use awk_text::octets::Octets;
 use awk_text::place::Place;
 use awk_text::value::{Value, text_in};
-use itoa::Buffer;
 use std::alloc::Global;
 
 /// The text with its first match, or each one, replaced by the text of a value, and how many were; or `None` where

@@ -19,10 +19,10 @@ use awk_program::Own;
 use awk_store::Store;
 use awk_streams::halt::Halt;
 use awk_text::Memory;
+use awk_text::buffer::Buffer;
 use awk_text::fault::Fault;
 use awk_text::place::Place;
 use awk_text::value::{Value, text_in};
-use itoa::Buffer;
 use std::alloc::Global;
 
 /// Whether the pattern matches somewhere in the text of a value.

@@ -22,11 +22,11 @@ use awk_fields::Splitter;
 use awk_program::Variable;
 use awk_store::Store;
 use awk_streams::halt::{Halt, at};
+use awk_text::buffer::Buffer;
 use awk_text::fault::Fault;
 use awk_text::octets::Octets;
 use awk_text::place::Place;
 use awk_text::value::{Value, text_in};
-use itoa::Buffer;
 use std::alloc::Global;
 
 /// The parts of the text of a value.

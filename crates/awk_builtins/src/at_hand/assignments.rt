@@ -12,6 +12,8 @@ ghost use Rattle.awk_program.specs.declared.operators.StepValue.{StepValue as Wh
 ghost use Rattle.awk_store.specs.Acts.{Acts, Passes};
 ghost use Rattle.awk_store.specs.Wholes.{names_in};
 ghost use Rattle.awk_streams.specs.Tables.{Table};
+ghost use Rattle.awk_numbers.specs.declared.number.Number.TheVariants as number;
+ghost use Rattle.awk_numbers.specs.declared.number.Numbers.{Numbers};
 ghost use Rattle.awk_text.specs.Arithmetic.{add};
 ghost use Rattle.std.specs.Prelude.{ℤ, IfSome, None, false, map, true, ◌∷◌, ◌≡◌};
 
@@ -21,6 +23,7 @@ use crate::at_hand::tests::chosen;
 use crate::at_hand::values::{MOST_LEVELS, number_at_hand, number_kept, value_at_hand};
 use crate::line::Line;
 use crate::operators::{operation, stepped};
+use awk_numbers::number::Number;
 use awk_program::{Expr, Operator, Step, Target, Variable};
 use awk_store::{Store, is_nf};
 use awk_streams::halt::Halt;
@@ -113,10 +116,11 @@ fn changed_variable(store: &mut Store, how: Operator, variable: Variable, x: &Ex
     let Some(old) = number_kept(store, variable) else {
         return false;
     };
-    let Ok(new) = operation(how, old, operand) else {
+    let numbers = store.numbers();
+    let Ok(new) = operation(numbers, how, Number::Whole(old), Number::Whole(operand)) else {
         return false;
     };
-    store.set(variable, Value::Num(new));
+    store.set(variable, Value::of(new));
     true
 }
 
@@ -184,10 +188,14 @@ fn changed(
     added_by(store, line, how, *array, keys.as_slice(), x)
 }
 
-/// `variable ++` and `variable --`, where the variable holds a number and there is no fault: the old number and the new
-/// one.
+/// `variable ++` and `variable --`, by the store's profile, where the variable holds a whole number and there is no
+/// fault: the old number and the new one.
 #[inline(always)]
-pub fn stepped_variable(store: &mut Store, how: Step, variable: Variable) -> Option<(i64, i64)>
+pub fn stepped_variable(
+    store: &mut Store,
+    how: Step,
+    variable: Variable,
+) -> Option<(Number, Number)>
     ensures done { IfSome result
         (λ n. (g : Given) (t : Table) (place : Place) (taken : Which) →
         Passes g (value (p.step place how taken (p.variable (variable_of (names_in g) variable)))) (store.old, t)
@@ -195,16 +203,17 @@ pub fn stepped_variable(store: &mut Store, how: Step, variable: Variable) -> Opt
     ensures not_done { result ≡ None → store.new ≡ store.old }
 {
     let old = number_kept(store, variable)?;
-    let Ok(new) = stepped(how, old) else {
+    let Ok(new) = stepped(store.numbers(), how, Number::Whole(old)) else {
         return None;
     };
-    store.set(variable, Value::Num(new));
-    Some((old, new))
+    store.set(variable, Value::of(new));
+    Some((Number::Whole(old), new))
 }
 
-/// What `++` and `--` add.
+/// What `++` and `--` add, by either profile.
 fn step_by(how: Step) -> i64
-    ensures { (n : ℤ) → add n result ≡ machine.stepped how n }
+    ensures { (numbers : Numbers) (n : ℤ) → add numbers (number.Whole n) (number.Whole result)
+        ≡ machine.stepped numbers how (number.Whole n) }
 {
     match how {
         Step::Increment => 1,

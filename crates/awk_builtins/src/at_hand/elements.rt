@@ -6,6 +6,7 @@ ghost use Rattle.awk_machine.specs.Expressions.{either};
 ghost use Rattle.awk_machine.specs.Forms.{spot, value};
 ghost use Rattle.awk_machine.specs.Pieces.{give};
 ghost use Rattle.awk_machine.specs.State.{Given};
+ghost use Rattle.awk_numbers.specs.declared.number.Number.TheVariants as number;
 ghost use Rattle.awk_program.specs.Program as p;
 ghost use Rattle.awk_program.specs.View.{Names, view_target};
 ghost use Rattle.awk_program.specs.declared.operators.StepValue.{StepValue as Which};
@@ -22,21 +23,36 @@ ghost use Rattle.awk_text.specs.Values.{text_of};
 ghost use Rattle.awk_text.specs.declared.value.Value.TheVariants as v;
 ghost use Rattle.awk_text.specs.declared.value.Value.{Value as Val};
 ghost use Rattle.std.specs.Fmt.{decimal};
-ghost use Rattle.std.specs.Prelude.{IfSome, List, Some, false, length, true, ◌≡◌, ◌≤◌};
+ghost use Rattle.std.specs.Prelude.{IfSome, List, Some, false, length, pos, true, ◌≡◌, ◌≤◌};
 
 use crate::at_hand::texts::{add_item, add_others, join_operands};
 use crate::at_hand::values::{MOST_LEVELS, at_hand, number_at_hand, number_there};
 use crate::line::Line;
 use crate::made::stepped_at;
+use awk_numbers::number::Number;
 use awk_program::{Expr, Own, Step, Target, Variable};
 use awk_store::elements::{read_element, set_element};
 use awk_store::{Spot, Store};
 use awk_streams::halt::Halt;
+use awk_text::buffer::Buffer;
 use awk_text::place::Place;
 use awk_text::texts::MOST_BYTES;
 use awk_text::value::Value;
-use itoa::Buffer;
 use std::alloc::Global;
+
+/// The number of the field that a constant names, where it names one.
+#[inline(always)]
+fn field_constant(constant: Number) -> Option<u16>
+    ensures { IfSome result (λ n. (constant ≡ number.Whole (pos n)) × (n ≤ 65535)) }
+{
+    let Number::Whole(whole) = constant else {
+        return None;
+    };
+    match u16::try_from(whole) {
+        Ok(place) => Some(place),
+        Err(_) => None,
+    }
+}
 
 /// What is read or set, where it is a variable or a field by a constant: to evaluate it changes nothing and meets no
 /// fault.
@@ -50,10 +66,10 @@ pub fn spot_at_hand(target: &Target<Expr>) -> Option<Spot>
         Target::Variable(variable) => Some(Spot::Variable(*variable)),
         Target::Element(_, _, _) => None,
         Target::Field(_, x) => match x.get() {
-            Expr::Number(number) => match u16::try_from(*number) {
-                Ok(number) => Some(Spot::Field(number)),
-                Err(_) => None,
-            },
+            Expr::Number(constant) => {
+                let place = field_constant(*constant)?;
+                Some(Spot::Field(place))
+            }
             _ => None,
         },
     }
@@ -168,7 +184,7 @@ pub(crate) fn put_at_number(store: &mut Store, array: Variable, number: i64, val
         return put_at_place(store, array, place, value);
     }
     let mut digits = Buffer::new();
-    let key = digits.format(number).as_bytes();
+    let key = digits.text(Number::Whole(number));
     if MOST_BYTES < key.len() {
         return false;
     }
@@ -178,10 +194,11 @@ pub(crate) fn put_at_number(store: &mut Store, array: Variable, number: i64, val
     }
 }
 
-/// Adds to the number that the element holds whose key is a number's digits, and answers whether it did.
+/// Adds to the number that the element holds whose key is a number's digits, by the store's profile, and answers
+/// whether it did: the sum is a whole number.
 fn add_at_number(store: &mut Store, array: Variable, number: i64, by: i64) -> bool
     ensures done { result ≡ true → (length (text_of (v.Num number)) ≤ most_bytes)
-        × Adds (Some (kept.array store.old array)) (text_of (v.Num number)) by
+        × Adds store.old.numbers (Some (kept.array store.old array)) (text_of (v.Num number)) by
         (λ new. store.new ≡ with_array (kept.reference store.old array) new store.old) }
     ensures not_done { result ≡ false → store.new ≡ store.old }
 {
@@ -189,7 +206,7 @@ fn add_at_number(store: &mut Store, array: Variable, number: i64, by: i64) -> bo
         return store.add_to_number(array, place, by);
     }
     let mut digits = Buffer::new();
-    let key = digits.format(number).as_bytes();
+    let key = digits.text(Number::Whole(number));
     if MOST_BYTES < key.len() {
         return false;
     }
@@ -197,7 +214,7 @@ fn add_at_number(store: &mut Store, array: Variable, number: i64, by: i64) -> bo
 }
 
 /// Adds to the number that the element with one subscript holds, and answers whether it did: the subscript is at hand,
-/// and there is such a number. A number or a field as the subscript is not copied.
+/// there is such a number, and the sum is a whole one. A number or a field as the subscript is not copied.
 pub(crate) fn added_at(
     store: &mut Store,
     line: &mut Line,
@@ -261,15 +278,15 @@ pub fn read_at_key(
     read_element(store, element.at_name, element.array, element.key)
 }
 
-/// `array [ key ] ++` and `array [ key ] --`, once the key is known: the old number and the new one. A fault of the
-/// array is at the place of its name.
+/// `array [ key ] ++` and `array [ key ] --` by the store's profile, once the key is known: the old number and the new
+/// one. A fault of the array is at the place of its name.
 pub fn step_at_key(
     alloc: Global,
     store: &mut Store,
     place: Place,
     how: Step,
     element: ElementAtHand<'_>,
-) -> Result<(i64, i64), Halt>
+) -> Result<(Number, Number), Halt>
     ensures { (g : Given) (t : Table) (target : Target Expr) (taken : Which) →
         IsAtKey target store.old element.entry.at_name element.entry.array element.entry.key.now →
         Acts g (value (p.step place how taken (view_target (names_in g) target))) (λ n. give (either taken n.0 n.1))
@@ -281,7 +298,7 @@ pub fn step_at_key(
         key,
     } = element;
     let old = read_element(store, at_name, array, key)?;
-    let (before, behind) = stepped_at(place, how, &old)?;
-    set_element(store, at_name, array, key, Value::Num(behind))?;
+    let (before, behind) = stepped_at(store.numbers(), place, how, &old)?;
+    set_element(store, at_name, array, key, Value::of(behind))?;
     Ok((before, behind))
 }

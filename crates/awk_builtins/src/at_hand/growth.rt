@@ -26,12 +26,12 @@ use awk_store::values::into_text;
 use awk_store::{Store, is_nf};
 use awk_streams::halt::Halt;
 use awk_text::Memory;
+use awk_text::buffer::Buffer;
 use awk_text::fault::Fault;
 use awk_text::octets::Octets;
 use awk_text::place::Place;
 use awk_text::texts::MOST_BYTES;
 use awk_text::value::{Value, text_in};
-use itoa::Buffer;
 use std::alloc::Global;
 
 /// Adds bytes behind the others, and answers whether it did: there is room.
@@ -146,7 +146,7 @@ fn room_behind(store: &Store, variable: Variable) -> Option<usize>
     }
     match store.value(variable)? {
         Value::Text(text) => MOST_BYTES.checked_sub(text.bytes().len()),
-        Value::Unset | Value::Num(_) | Value::Input(_) => None,
+        Value::Unset | Value::Num(_) | Value::Real(_) | Value::Input(_) => None,
     }
 }
 

@@ -5,14 +5,21 @@ ghost use Rattle.awk_store.specs.Acts.{Acts};
 ghost use Rattle.awk_streams.specs.Tables.{Table};
 ghost use Rattle.std.specs.Prelude.{◌∷◌, ◌≡◌};
 
+use awk_numbers::number::Number;
 use awk_program::{Expr, Joined, Target};
 use awk_store::{Store, is_nf};
 use awk_streams::halt::Halt;
 
+/// Whether an expression is the constant 0.
+#[inline(always)]
+fn is_zero(e: &Expr) -> bool {
+    matches!(e, Expr::Number(Number::Whole(0)))
+}
+
 /// Whether an expression is a field other than `$0`.
 fn is_field(e: &Expr) -> bool {
     match e {
-        Expr::Read(Target::Field(_, number)) => !matches!(number.get(), Expr::Number(0)),
+        Expr::Read(Target::Field(_, number)) => !is_zero(number.get()),
         _ => false,
     }
 }
@@ -20,7 +27,7 @@ fn is_field(e: &Expr) -> bool {
 /// Whether an expression is `$0`.
 pub(crate) fn is_whole(e: &Expr) -> bool {
     match e {
-        Expr::Read(Target::Field(_, number)) => matches!(number.get(), Expr::Number(0)),
+        Expr::Read(Target::Field(_, number)) => is_zero(number.get()),
         _ => false,
     }
 }
@@ -76,7 +83,7 @@ fn joins_field(first: &Expr, rest: &[Joined<Expr>]) -> bool {
 fn reads_field(target: &Target<Expr>) -> bool {
     match target {
         Target::Variable(variable) => is_nf(*variable),
-        Target::Field(_, number) => !matches!(number.get(), Expr::Number(0)),
+        Target::Field(_, number) => !is_zero(number.get()),
         Target::Element(_, _, _) => false,
     }
 }

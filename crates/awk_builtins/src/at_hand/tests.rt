@@ -21,9 +21,9 @@ use crate::patterns::{check, matches};
 use awk_program::{Comparison, Expr, Pattern, Variable};
 use awk_store::Store;
 use awk_streams::halt::Halt;
+use awk_text::buffer::Buffer;
 use awk_text::lent::Lent;
 use awk_text::place::Place;
-use itoa::Buffer;
 use std::alloc::Global;
 
 /// Whether a comparison with a number holds, where the other side is there.
@@ -34,7 +34,7 @@ fn compared_beside(store: &Store, how: Comparison, left: i64, y: &Expr) -> Optio
         HasTruth (λ names. p.compare how (x names) (view names y.now)) store.now b) }
 {
     let right = at_hand(store, y, MOST_LEVELS)?;
-    Some(compared_lent(how, Lent::Num(left), right))
+    Some(compared_lent(store.numbers(), how, Lent::Num(left), right))
 }
 
 /// The same. Two numbers are compared without a value between.
@@ -57,7 +57,7 @@ fn compared_values(store: &Store, how: Comparison, x: &Expr, y: &Expr) -> Option
 {
     let left = at_hand(store, x, MOST_LEVELS)?;
     let right = at_hand(store, y, MOST_LEVELS)?;
-    Some(compared_lent(how, left, right))
+    Some(compared_lent(store.numbers(), how, left, right))
 }
 
 /// The same. Two numbers that stand ready are compared in line.
@@ -102,7 +102,7 @@ fn part_is_true(store: &Store, e: &Expr) -> Option<bool>
         | Expr::Builtin(_, _, _)
         | Expr::Count(_) => {
             let value = at_hand(store, e, MOST_LEVELS)?;
-            Some(value.truth())
+            Some(value.truth(store.numbers()))
         }
         _ => None,
     }
@@ -174,7 +174,7 @@ fn plain_is_true(store: &Store, e: &Expr) -> Option<bool>
     ensures { IfSome result (λ b. HasTruth (λ names. view names e.now) store.now b) }
 {
     let value = plain_value(store, e)?;
-    Some(value.truth())
+    Some(value.truth(store.numbers()))
 }
 
 /// Whether an expression is true, where its value is there, or it is a comparison of two such. An ERE by itself never

@@ -29,11 +29,11 @@ use crate::printing::ended;
 use awk_program::{Expr, Joined, Own, Redirection};
 use awk_store::Store;
 use awk_streams::halt::Halt;
+use awk_text::buffer::Buffer;
 use awk_text::lent::Lent;
 use awk_text::octets::Octets;
 use awk_text::place::Place;
 use awk_text::value::Value;
-use itoa::Buffer;
 use std::alloc::Global;
 
 /// Adds the text of an item that is at hand, and answers whether it did.

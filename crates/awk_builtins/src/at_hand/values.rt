@@ -9,22 +9,24 @@ ghost use Rattle.awk_program.specs.declared.builtins.Builtin.TheVariants as b;
 ghost use Rattle.awk_store.specs.Kept as kept;
 ghost use Rattle.awk_text.specs.Lents.{lent_value};
 ghost use Rattle.awk_text.specs.Limits.{most_bytes};
-ghost use Rattle.awk_text.specs.Values.{text_of};
+ghost use Rattle.awk_numbers.specs.declared.number.Number.TheVariants as number;
+ghost use Rattle.awk_text.specs.Values.{number_of, of_number, text_of};
 ghost use Rattle.awk_text.specs.declared.place.Place as spot_of;
 ghost use Rattle.awk_text.specs.declared.value.Value.TheVariants as v;
-ghost use Rattle.std.specs.Prelude.{IfSome, Some, false, length, map, ◌≡◌, ◌≤◌};
+ghost use Rattle.std.specs.Prelude.{IfSome, Ok, Some, false, length, map, ◌≡◌, ◌≤◌};
 
 use crate::functions::{cased, index_of, part_of, text_length};
 use crate::operators::operation;
 use awk_fields::row::LEAST_SHARED;
+use awk_numbers::number::{Number, Numbers};
 use awk_program::{Builtin, Expr, Target, Term, Variable};
 use awk_store::{Store, is_nf};
+use awk_text::buffer::Buffer;
 use awk_text::lent::{Lent, few_digits};
 use awk_text::octets::Octets;
 use awk_text::place::Place;
 use awk_text::texts::MOST_BYTES;
 use awk_text::value::Value;
-use itoa::Buffer;
 use std::alloc::Global;
 
 /// How many levels of arithmetic and of subscripts are looked into. What lies deeper is evaluated, level by level, and
@@ -59,7 +61,7 @@ pub fn number_kept(store: &Store, variable: Variable) -> Option<i64>
     let held = store.value(variable)?;
     match held {
         Value::Num(number) => Some(*number),
-        Value::Unset | Value::Text(_) | Value::Input(_) => None,
+        Value::Unset | Value::Real(_) | Value::Text(_) | Value::Input(_) => None,
     }
 }
 
@@ -100,8 +102,8 @@ fn digits_held(store: &Store, target: &Target<Expr>) -> Option<i64>
     }
     let held = store.value(*variable)?;
     match held {
-        Value::Input(text) => few_digits(text.bytes()),
-        Value::Unset | Value::Num(_) | Value::Text(_) => None,
+        Value::Input(text) => few_digits(store.numbers(), text.bytes()),
+        Value::Unset | Value::Num(_) | Value::Real(_) | Value::Text(_) => None,
     }
 }
 
@@ -124,6 +126,39 @@ fn element_by<'a>(store: &'a Store, array: Variable, subscript: Lent<'_>) -> Opt
         return None;
     }
     store.element(array, key)
+}
+
+/// The number of a constant, where that is a whole one.
+#[inline(always)]
+fn as_whole(constant: Number) -> Option<i64>
+    ensures { IfSome result (λ n. constant ≡ number.Whole n) }
+{
+    match constant {
+        Number::Whole(whole) => Some(whole),
+        Number::Real(_) => None,
+    }
+}
+
+/// The value of a constant.
+#[inline(always)]
+fn lent_number<'a>(constant: Number) -> Lent<'a>
+    ensures { lent_value result ≡ of_number constant }
+{
+    match constant {
+        Number::Whole(whole) => Lent::Num(whole),
+        Number::Real(real) => Lent::Real(real),
+    }
+}
+
+/// The number of a value by the profile, where that is a whole one.
+#[inline(always)]
+fn whole_number(numbers: Numbers, value: Lent<'_>) -> Option<i64>
+    ensures { IfSome result (λ n. number_of numbers (lent_value value.entry) ≡ Ok (number.Whole n)) }
+{
+    match value.number(numbers) {
+        Ok(Number::Whole(number)) => Some(number),
+        _ => None,
+    }
 }
 
 /// The value of an element that is there, by one subscript.
@@ -205,8 +240,8 @@ fn target_at_hand<'a>(store: &'a Store, target: &'a Target<Expr>, level: u32) ->
     }
 }
 
-/// The number of a chain of `+` and `-`, or of `*`, `/` and `%`, or of one `^`, whose operands are there and which
-/// meets no fault.
+/// The number of a chain of `+` and `-`, or of `*`, `/` and `%`, or of one `^`, whose operands are there, where each
+/// operator gives a whole number.
 #[cycle(hand)]
 #[inline(never)]
 fn chain_at_hand(store: &Store, x: &Expr, xs: &[Term<Expr>], level: u32) -> Option<i64>
@@ -217,10 +252,16 @@ fn chain_at_hand(store: &Store, x: &Expr, xs: &[Term<Expr>], level: u32) -> Opti
     if xs.is_empty() {
         return None;
     }
+    let numbers = store.numbers();
     let mut so_far = number_at_hand(store, x, level)?;
     for next in xs {
         let operand = number_at_hand(store, &next.operand, level)?;
-        let Ok(made) = operation(next.operator, so_far, operand) else {
+        let Ok(Number::Whole(made)) = operation(
+            numbers,
+            next.operator,
+            Number::Whole(so_far),
+            Number::Whole(operand),
+        ) else {
             return None;
         };
         so_far = made;
@@ -238,7 +279,7 @@ fn number_of_target(store: &Store, target: &Target<Expr>, level: u32) -> Option<
         return Some(number);
     }
     let value = target_at_hand(store, target, level)?;
-    value.number().ok()
+    whole_number(store.numbers(), value)
 }
 
 /// The part of a text that substr gives for values that are there, lent as the text is.
@@ -329,7 +370,7 @@ fn number_made(store: &Store, e: &Expr, level: u32) -> Option<i64>
     ensures { IfSome result (λ n. HasNumber (λ names. view names e.now) store.now n) }
 {
     let value = made_at_hand(store, e, level)?;
-    value.number().ok()
+    whole_number(store.numbers(), value)
 }
 
 /// The number of an expression's value, where the value is there.
@@ -344,8 +385,8 @@ pub fn number_at_hand(store: &Store, e: &Expr, level: u32) -> Option<i64>
         }
         return number_of_target(store, target, level);
     }
-    if let Expr::Number(number) = e {
-        return Some(*number);
+    if let Expr::Number(constant) = e {
+        return as_whole(*constant);
     }
     if level == 0 {
         return None;
@@ -371,8 +412,8 @@ pub fn at_hand<'a>(store: &'a Store, e: &'a Expr, level: u32) -> Option<Lent<'a>
     if let Expr::Text(text) = e {
         return Some(Lent::Text(text.bytes()));
     }
-    if let Expr::Number(number) = e {
-        return Some(Lent::Num(*number));
+    if let Expr::Number(constant) = e {
+        return Some(lent_number(*constant));
     }
     if level == 0 {
         return None;
@@ -392,8 +433,8 @@ pub(crate) fn plain_number(store: &Store, e: &Expr) -> Option<i64>
     if let Expr::Read(target) = e {
         return number_read(store, target);
     }
-    if let Expr::Number(number) = e {
-        return Some(*number);
+    if let Expr::Number(constant) = e {
+        return as_whole(*constant);
     }
     None
 }
@@ -417,6 +458,7 @@ fn owned<'a>(alloc: Global, value: Lent<'a>) -> Option<Value>
     match value {
         Lent::Unset => Some(Value::Unset),
         Lent::Num(number) => Some(Value::Num(number)),
+        Lent::Real(number) => Some(Value::Real(number)),
         Lent::Text(text) => Some(Value::Text(Octets::of(alloc, text).ok()?)),
         Lent::Input(text) => Some(Value::Input(Octets::of(alloc, text).ok()?)),
     }
@@ -426,7 +468,7 @@ fn owned<'a>(alloc: Global, value: Lent<'a>) -> Option<Value>
 #[inline(always)]
 fn is_long(value: Lent<'_>) -> bool {
     match value {
-        Lent::Unset | Lent::Num(_) => false,
+        Lent::Unset | Lent::Num(_) | Lent::Real(_) => false,
         Lent::Text(text) | Lent::Input(text) => LEAST_SHARED <= text.len(),
     }
 }

@@ -12,8 +12,9 @@ use Rattle.awk_builtins.proofs.Listed.{printed_some}
 use Rattle.awk_builtins.proofs.printing.formatted_for.Goals as goal
 
 pub returns : goal.returns
-returns c = λ g w x xs r e. rw c.at.ensures (given_or_lacks g w _ c.args.place (to_stream r c.args.name.now)
-    (builtin.formatted_by c.args.values.now) c.text_of_format.result c.text_of_format.ensures.ok
-    c.text_of_format.ensures.err
-    (λ k hid d a. ap (held g (seen (base g w hid) d)) (printed_some (λ s. builtin.formatted_by) c.args.place (x ∷ xs)
+returns c = λ g w x xs r by e. rw c.at.ensures (given_or_lacks g w _ c.args.place (to_stream r c.args.name.now)
+    (builtin.formatted_by w.0.numbers c.args.values.now) c.text_of_format.result
+    (rw by at c.text_of_format.ensures.ok) (rw by at c.text_of_format.ensures.err)
+    (λ k hid d a. ap (held g (seen (base g w hid) d)) (printed_some (λ s. builtin.formatted_by s.numbers) c.args.place
+    (x ∷ xs)
     (Doing (p.printf c.args.place x xs (Some r))) r c.args.name.now c.args.values.now k (seen (base g w hid) d) e)))

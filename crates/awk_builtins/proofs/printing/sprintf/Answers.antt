@@ -7,7 +7,9 @@ use Rattle.awk_program.specs.declared.builtins.Builtin.TheVariants as b
 use Rattle.awk_builtins.proofs.printing.sprintf.Goals as goal
 
 pub returns : goal.returns
-returns c = λ g w xs e. rw c.text_at.ensures (text_so g w _ c.args.place give (builtin.formatted_by c.args.values.now)
-    c.text_of_format.result c.text_of_format.ensures.ok c.text_of_format.ensures.err
-    (grants_made g w c.args.place b.Sprintf xs c.args.values.now e (builtin.formatted_text c.args.values.now)
-    (λ s. refl)))
+returns c = λ g w xs by e. rw c.text_at.ensures (text_so g w _ c.args.place give
+    (builtin.formatted_by w.0.numbers c.args.values.now)
+    c.text_of_format.result (rw by at c.text_of_format.ensures.ok) (rw by at c.text_of_format.ensures.err)
+    (grants_made g w c.args.place b.Sprintf xs c.args.values.now e
+    (builtin.formatted_text w.0.numbers c.args.values.now)
+    (λ s same. rw same refl)))

@@ -1,6 +1,7 @@
 use Rattle.std.proofs.Common.{ap, ◌∙◌, rules, w64}
 use Rattle.std.proofs.lemmas.Int.{to_z-of_z}
 use Rattle.std.specs.Prelude.{Ok}
+use Rattle.awk_numbers.specs.declared.number.Number.TheVariants as number
 use Rattle.awk_program.specs.View.{view}
 use Rattle.awk_program.proofs.Views.{view-Read}
 use Rattle.awk_store.specs.Wholes.{names_in}
@@ -20,5 +21,6 @@ returns c =
     (element_spot g (c.args.store.now, t) place of_ (view (names_in g) c.one-item.result) val (text_of val)
     (rw (c.in-Read.is, view-Read, c.in-Field.is)
     (rw c.get.ensures at (field_there g (c.args.store.now, t) c.in-Field.field-0
-    (view (names_in g) c.get.result.now) h.val c.in-Ok.number val (h.there g t) (h.is ∙ ap Ok is.0) is.1 at)))
+    (view (names_in g) c.get.result.now) h.val c.in-Ok.number val (h.there g t) (h.is ∙ ap (λ z. Ok
+    (number.Whole z)) is.0) is.1 at)))
     (limited_ok (text_of val) fits))

@@ -7,10 +7,10 @@ use Rattle.awk_program.specs.Program.{expressions_of}
 use Rattle.awk_program.specs.View.{variable_of, view}
 use Rattle.awk_store.proofs.Acting.{at_rest, doing, done, moves, reworded, stop}
 use Rattle.awk_store.specs.Wholes.{names_in}
+use Rattle.awk_text.specs.Values.{of_number}
 use Rattle.awk_text.specs.declared.value.Value.TheVariants as v
 use Rattle.awk_builtins.proofs.AtHand.{on}
-use Rattle.std.proofs.Common.{[], map, refl, rules, w64, ◌∷◌}
-use Rattle.std.proofs.lemmas.Int.{to_z-of_z}
+use Rattle.std.proofs.Common.{[], map, refl, ◌∷◌}
 use Rattle.std.proofs.lemmas.Result.{err_from_is_err_and}
 use Rattle.awk_builtins.proofs.at_hand.elements.step_at_key.Goals as goal
 
@@ -51,7 +51,8 @@ returns-in_err-before c = λ g t what taken at.
     (at.key_is g t c.args.element.at_name (variable_of (names_in g) c.args.element.array))) (λ k hid d a. refl))
     (c.read_element.ensures g t) c.in_ok-old.was) (c.stepped_at.ensures g (c.read_element.new.store, t) taken
     (p.element c.args.element.at_name (variable_of (names_in g) c.args.element.array)
-    (expressions_of (map (view (names_in g)) at.keys))) (v.Text c.args.element.key.now)) c.in_err-before.was)
+    (expressions_of (map (view (names_in g)) at.keys)))
+    (v.Text c.args.element.key.now) c.numbers.ensures) c.in_err-before.was)
 
 pub returns-in_err-set_element : goal.returns-in_err-set_element
 returns-in_err-set_element c = λ g t what taken at.
@@ -60,7 +61,7 @@ returns-in_err-set_element c = λ g t what taken at.
     rw (e.1, e.2, at.is) (stop _
     (reworded {then_ = λ k. Do
     (Set (machine.Element (variable_of (names_in g) c.args.element.array) c.args.element.key.now
-    c.args.element.at_name) c.args.place (v.Num c.in_ok-before.behind)) ∷ Do
+    c.args.element.at_name) c.args.place (of_number c.in_ok-before.behind)) ∷ Do
     (Give (either taken c.in_ok-before.before c.in_ok-before.behind)) ∷ k}
     (doing (c.in_ok-before.before, c.in_ok-before.behind)
     (doing c.in_ok-old.old
@@ -78,17 +79,17 @@ returns-in_err-set_element c = λ g t what taken at.
     (at.key_is g t c.args.element.at_name (variable_of (names_in g) c.args.element.array))) (λ k hid d a. refl))
     (c.read_element.ensures g t) c.in_ok-old.was) (c.stepped_at.ensures g (c.read_element.new.store, t) taken
     (p.element c.args.element.at_name (variable_of (names_in g) c.args.element.array)
-    (expressions_of (map (view (names_in g)) at.keys))) (v.Text c.args.element.key.now)) c.in_ok-before.was)
-    (λ k. refl)) (rw (to_z-of_z w64 c.in_ok-before.behind (search rules)) at
-    (c.set_element.ensures g t c.args.place)) c.in_err-set_element.was)
+    (expressions_of (map (view (names_in g)) at.keys)))
+    (v.Text c.args.element.key.now) c.numbers.ensures) c.in_ok-before.was)
+    (λ k. refl)) (rw c.of.ensures at (c.set_element.ensures g t c.args.place)) c.in_err-set_element.was)
 
 pub returns : goal.returns
 returns c = λ g t what taken at.
-    rw (to_z-of_z w64 c.in_ok-before.before (search rules), to_z-of_z w64 c.in_ok-before.behind (search rules), at.is)
+    rw at.is
     (done (moves (doing (tt {0})
     (reworded {then_ = λ k. Do
     (Set (machine.Element (variable_of (names_in g) c.args.element.array) c.args.element.key.now
-    c.args.element.at_name) c.args.place (v.Num c.in_ok-before.behind)) ∷ Do
+    c.args.element.at_name) c.args.place (of_number c.in_ok-before.behind)) ∷ Do
     (Give (either taken c.in_ok-before.before c.in_ok-before.behind)) ∷ k}
     (doing (c.in_ok-before.before, c.in_ok-before.behind)
     (doing c.in_ok-old.old
@@ -106,6 +107,7 @@ returns c = λ g t what taken at.
     (at.key_is g t c.args.element.at_name (variable_of (names_in g) c.args.element.array))) (λ k hid d a. refl))
     (c.read_element.ensures g t) c.in_ok-old.was) (c.stepped_at.ensures g (c.read_element.new.store, t) taken
     (p.element c.args.element.at_name (variable_of (names_in g) c.args.element.array)
-    (expressions_of (map (view (names_in g)) at.keys))) (v.Text c.args.element.key.now)) c.in_ok-before.was)
-    (λ k. refl)) (rw (to_z-of_z w64 c.in_ok-before.behind (search rules)) at
-    (c.set_element.ensures g t c.args.place)) c.in_ok-set_element.was) (λ k hid d a. refl)))
+    (expressions_of (map (view (names_in g)) at.keys)))
+    (v.Text c.args.element.key.now) c.numbers.ensures) c.in_ok-before.was)
+    (λ k. refl)) (rw c.of.ensures at (c.set_element.ensures g t c.args.place)) c.in_ok-set_element.was)
+    (λ k hid d a. refl)))

@@ -45,8 +45,8 @@ pub returns : goal.returns
 returns c =
     let l = c.loop-y.invariant in
     record {
-      val = of_truth (truth l.val);
-      is = truth_back (truth l.val) ∙ sym l.is;
+      val = of_truth (truth c.args.store.now.numbers l.val);
+      is = truth_back c.args.store.now.numbers (truth c.args.store.now.numbers l.val) ∙ sym l.is;
       there =
           λ g t. and_done g (c.args.store.now, t) c.args.xs.now c.loop-y.y-index l.val c.loop-y-test.false
           (l.along g t);

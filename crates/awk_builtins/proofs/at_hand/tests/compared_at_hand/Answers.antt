@@ -13,7 +13,7 @@ use Rattle.awk_builtins.proofs.at_hand.tests.compared_at_hand.Goals as goal
 pub returns-in-Some-plain_number : goal.returns-in-Some-plain_number
 returns-in-Some-plain_number c = record {
   val = of_truth c.compared_numbers.result;
-  is = truth_back c.compared_numbers.result;
+  is = truth_back c.args.store.now.numbers c.compared_numbers.result;
   there = λ g t. rw (
     c.compared_numbers.ensures,
     to_z-of_z w64 c.in-Some.left (search rules),

@@ -1,7 +1,7 @@
-use Rattle.std.proofs.Common.{rules, subst, sym, w64}
+use Rattle.std.proofs.Common.{ap, of_z, rules, subst, sym, to_z, w64, ◌∙◌}
 use Rattle.std.proofs.lemmas.Int.{to_z-of_z}
 use Rattle.awk_text.specs.Lents.{lent_value}
-use Rattle.awk_machine.specs.Operators.{of_truth}
+use Rattle.awk_machine.specs.Operators.{compared, of_truth}
 use Rattle.awk_program.specs.View.{view}
 use Rattle.awk_store.specs.Wholes.{names_in}
 use Rattle.awk_text.specs.declared.value.Value.TheVariants as v
@@ -15,7 +15,9 @@ returns c = λ x left.
     in
     record {
       val = of_truth c.compared_lent.result;
-      is = truth_back c.compared_lent.result;
-      there = λ g t. rw c.compared_lent.ensures (comparison_there g (c.args.store.now, t) c.args.how (x (names_in g))
+      is = truth_back c.args.store.now.numbers c.compared_lent.result;
+      there = λ g t. rw (c.compared_lent.ensures ∙ ap (λ m. compared m c.args.how (v.Num (to_z w64
+          (of_z w64 c.args.left))) (lent_value c.in_ok-right.right)) c.numbers.ensures)
+          (comparison_there g (c.args.store.now, t) c.args.how (x (names_in g))
           (view (names_in g) c.args.y.now) _ (lent_value c.in_ok-right.right) (left' g t) (c.in_ok-right.ensures g t));
     }

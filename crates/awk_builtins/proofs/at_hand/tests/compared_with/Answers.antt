@@ -11,7 +11,7 @@ returns-in-Some c = λ x left.
     let h = c.in-Some.ensures in
     record {
       val = of_truth c.compared_numbers.result;
-      is = truth_back c.compared_numbers.result;
+      is = truth_back c.args.store.now.numbers c.compared_numbers.result;
       there = λ g t. rw (
         c.compared_numbers.ensures,
         to_z-of_z w64 c.args.left (search rules),

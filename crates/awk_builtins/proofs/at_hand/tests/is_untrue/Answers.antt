@@ -12,8 +12,8 @@ pub returns : goal.returns
 returns c =
     let h = c.in_ok-holds.ensures in
     record {
-      val = of_truth (not (truth h.val));
-      is = truth_back (not (truth h.val)) ∙ ap not h.is;
+      val = of_truth (not (truth c.args.store.now.numbers h.val));
+      is = truth_back c.args.store.now.numbers (not (truth c.args.store.now.numbers h.val)) ∙ ap not h.is;
       there =
           λ g t. not_there g (c.args.store.now, t) (view (names_in g) c.args.x.now) h.val (h.there g t);
     }

@@ -15,7 +15,7 @@ use Rattle.awk_builtins.proofs.at_hand.tests.one_is_true.Given as goal
 abbrev pub invariant-loop-y : goal.invariant-loop-y
 invariant-loop-y l = record {
   val : Value;
-  is : l.last ≡ truth val;
+  is : l.last ≡ truth l.store.numbers val;
   along : (g : Given) (t : Table)
       → Passes g (value (p.or (view (names_in g) l.x) (expressions_of (map (view (names_in g)) l.xs)))) (l.store, t)
       (ors g (l.store, t) l.xs l.y-index val) (l.store, t);

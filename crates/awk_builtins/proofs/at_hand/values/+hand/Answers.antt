@@ -1,9 +1,9 @@
 use Rattle.std.proofs.Common.{◌≡◌, refl, sym, ap, ◌∙◌, rules, arith, map, w64}
 use Rattle.std.specs.Prelude.{None, Ok, Some}
-use Rattle.std.specs.Result.{result_ok}
 use Rattle.std.proofs.lemmas.Int.{to_z-of_z}
 use Rattle.awk_text.specs.Lents.{lent_value}
 use Rattle.awk_text.specs.declared.place.Place.{Place}
+use Rattle.awk_numbers.specs.declared.number.Number.TheVariants as number
 use Rattle.awk_program.specs.Program as p
 use Rattle.awk_program.specs.Program.{expressions_of, terms_of}
 use Rattle.awk_program.specs.declared.builtins.Builtin.TheVariants as b
@@ -18,12 +18,12 @@ use Rattle.awk_builtins.specs.AtHand.{HasNumber, IsThere}
 use Rattle.awk_builtins.proofs.AtHand.{chain_first, element_there, field_number_is, field_there, number_there, terms_at}
 use Rattle.awk_builtins.proofs.AtHand.{terms_done, text_there}
 use Rattle.awk_builtins.proofs.MadeThere.{one_there, part_there, rest_there, two_there, whole_there}
-use Rattle.awk_builtins.proofs.Rests.{just_one, just_two, just_three, ok_told, some_done, some_for}
+use Rattle.awk_builtins.proofs.Rests.{just_one, just_two, just_three, some_done, some_for}
 use Rattle.awk_builtins.proofs.at_hand.values.+hand.Goals as goal
 
 pub at_hand-returns-in-Number : goal.at_hand-returns-in-Number
-at_hand-returns-in-Number t c = λ g u. rw (c.in-Number.is, view-Number, to_z-of_z w64 c.in-Number.number (search rules))
-    (number_there g _ c.in-Number.number)
+at_hand-returns-in-Number t c = λ g u. rw (c.in-Number.is, view-Number, c.lent_number.ensures)
+    (number_there g _ c.in-Number.constant)
 
 pub at_hand-returns-in-Text : goal.at_hand-returns-in-Text
 at_hand-returns-in-Text t c = λ g u. rw (c.in-Text.is, view-Text, c.bytes.ensures) (text_there g _ _)
@@ -55,7 +55,8 @@ field_at_hand-returns t c =
     let is = field_number_is c.in_ok-number.number c.in-Ok.number e.0 e.1 in
     some_for {P = λ x. IsValueAt c.args.store.now.row c.in-Ok.number (lent_value x)} c.lent_field.result
     (λ x at g u. field_there g (c.args.store.now, u) c.args.place (view (names_in g) c.args.number.now) h.val
-    c.in-Ok.number (lent_value x) (h.there g u) (h.is ∙ ap Ok is.0) is.1 at) c.lent_field.ensures
+    c.in-Ok.number (lent_value x) (h.there g u) (h.is ∙ ap (λ z. Ok
+    (number.Whole z)) is.0) is.1 at) c.lent_field.ensures
 
 pub number_at_hand-returns-in-Some : goal.number_at_hand-returns-in-Some
 number_at_hand-returns-in-Some t c =
@@ -68,12 +69,12 @@ number_at_hand-returns-in-Some t c =
 
 pub number_at_hand-returns-in-Number : goal.number_at_hand-returns-in-Number
 number_at_hand-returns-in-Number t c =
-    rw (to_z-of_z w64 c.in-Number.number (search rules)) (record {
-      val = v.Num c.in-Number.number;
+    some_for {P = λ n. c.in-Number.constant ≡ number.Whole n} c.as_whole.result
+    (λ n is. record {
+      val = v.Num n;
       is = refl;
-      there =
-          λ g u. rw (c.in-Number.is, view-Number) (number_there g _ c.in-Number.number);
-    })
+      there = λ g u. rw (c.in-Number.is, view-Number, is) (number_there g _ (number.Whole n));
+    }) c.as_whole.ensures
 
 pub number_of_target-returns-in-Some : goal.number_of_target-returns-in-Some
 number_of_target-returns-in-Some t c =
@@ -82,9 +83,10 @@ number_of_target-returns-in-Some t c =
 
 pub number_of_target-returns : goal.number_of_target-returns
 number_of_target-returns t c =
-    let number = number_of (lent_value c.in_ok-value.value) in
-    rw (c.ok.ensures.value, c.number.ensures) (some_for {P = λ n. number ≡ Ok n} (result_ok number)
-    (λ n is. record { val = lent_value c.in_ok-value.value; is = is; there = c.in_ok-value.ensures }) (ok_told number))
+    some_for {P = λ n. number_of c.args.store.now.numbers (lent_value c.in_ok-value.value) ≡ Ok (number.Whole n)}
+    c.whole_number.result
+    (λ n is. record { val = lent_value c.in_ok-value.value; is = is; there = c.in_ok-value.ensures })
+    (rw c.numbers.ensures at c.whole_number.ensures)
 
 pub number_at_hand-returns-in-Read : goal.number_at_hand-returns-in-Read
 number_at_hand-returns-in-Read t c =
@@ -106,9 +108,10 @@ number_at_hand-returns-in-Chain t c =
 
 pub number_made-returns : goal.number_made-returns
 number_made-returns t c =
-    let number = number_of (lent_value c.in_ok-value.value) in
-    rw (c.ok.ensures.value, c.number.ensures) (some_for {P = λ n. number ≡ Ok n} (result_ok number)
-    (λ n is. record { val = lent_value c.in_ok-value.value; is = is; there = c.in_ok-value.ensures }) (ok_told number))
+    some_for {P = λ n. number_of c.args.store.now.numbers (lent_value c.in_ok-value.value) ≡ Ok (number.Whole n)}
+    c.whole_number.result
+    (λ n is. record { val = lent_value c.in_ok-value.value; is = is; there = c.in_ok-value.ensures })
+    (rw c.numbers.ensures at c.whole_number.ensures)
 
 pub target_at_hand-returns-in-Variable : goal.target_at_hand-returns-in-Variable
 target_at_hand-returns-in-Variable t c =
@@ -144,15 +147,20 @@ pub chain_at_hand-loop-next-preserved : goal.chain_at_hand-loop-next-preserved
 chain_at_hand-loop-next-preserved t c =
     let l = rw c.loop-next.so_far-is at c.loop-next.invariant in
     let h = c.in_ok-operand.ensures in
-    rw (to_z-of_z w64 c.in-Ok.made (search rules)) (record {
-      val = v.Num c.in-Ok.made;
+    rw (to_z-of_z w64 c.in-Ok-Whole.made (search rules)) (record {
+      val = v.Num c.in-Ok-Whole.made;
       number = refl;
       exact = λ some. refl;
       along = λ g u. terms_at g (c.args.store.now, u) c.args.xs.now c.loop-next.next-index c.next-item.result l.val
-          h.val c.loop-next.so_far c.in_ok-operand.operand c.in-Ok.made
+          h.val c.loop-next.so_far c.in_ok-operand.operand c.in-Ok-Whole.made
           c.loop-next-test.true c.next-item.is l.number h.is
-          (rw (c.loop-next.so_far-is, to_z-of_z w64 c.in_ok-operand.operand (search rules)) at
-          (sym c.operation.ensures ∙ c.in-Ok.is)) (h.there g u) (l.along g u);
+          (rw (
+            c.loop-next.so_far-is,
+            to_z-of_z w64 c.in_ok-operand.operand (search rules),
+            c.numbers-numbers.ensures,
+            c.in-Ok-Whole.field-0-is,
+          ) at
+          (sym c.operation.ensures ∙ c.in-Ok-Whole.is)) (h.there g u) (l.along g u);
     })
 
 pub chain_at_hand-returns : goal.chain_at_hand-returns
@@ -201,7 +209,7 @@ called_at_hand-returns-in_ok-text-in-Length t c = λ q g u.
       c.text_length.ensures,
     )
     (one_there g (c.args.store.now, u) q b.Length (view (names_in g) c.x-item.result)
-    (lent_value c.in_ok-text-in-Length.text) _ (c.in_ok-text-in-Length.ensures g u) (λ s. refl))
+    (lent_value c.in_ok-text-in-Length.text) _ (c.in_ok-text-in-Length.ensures g u) (λ s same. refl))
 
 pub called_at_hand-returns-in_ok-part-in-Index : goal.called_at_hand-returns-in_ok-part-in-Index
 called_at_hand-returns-in_ok-part-in-Index t c = λ q g u.
@@ -215,7 +223,7 @@ called_at_hand-returns-in_ok-part-in-Index t c = λ q g u.
     (two_there g (c.args.store.now, u) q b.Index (view (names_in g) c.x-item-then-args-lt3.result)
     (view (names_in g) c.y-item.result) (lent_value c.in_ok-text-in-Index.text)
     (lent_value c.in_ok-part-in-Index.part) _ (c.in_ok-text-in-Index.ensures g u)
-    (c.in_ok-part-in-Index.ensures g u) (λ s. refl))
+    (c.in_ok-part-in-Index.ensures g u) (λ s same. refl))
 
 pub called_at_hand-returns-in_ok-number-in-Int : goal.called_at_hand-returns-in_ok-number-in-Int
 called_at_hand-returns-in_ok-number-in-Int t c = λ q g u.

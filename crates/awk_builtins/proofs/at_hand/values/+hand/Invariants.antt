@@ -1,5 +1,6 @@
 use Rattle.std.proofs.Common.{◌≡◌, ◌≤◌, ◌+◌, ◌*◌, map}
 use Rattle.std.specs.Prelude.{Ok}
+use Rattle.awk_numbers.specs.declared.number.Number.TheVariants as number
 use Rattle.awk_streams.specs.Tables.{Table}
 use Rattle.awk_machine.specs.Forms.{value}
 use Rattle.awk_machine.specs.State.{Given}
@@ -17,7 +18,7 @@ use Rattle.awk_builtins.proofs.at_hand.values.+hand.Given as goal
 abbrev pub invariant-chain_at_hand-loop-next : goal.invariant-chain_at_hand-loop-next
 invariant-chain_at_hand-loop-next l = record {
   val : Value;
-  number : number_of val ≡ Ok l.so_far;
+  number : number_of l.store.numbers val ≡ Ok (number.Whole l.so_far);
   exact : 1 ≤ l.next-index → val ≡ v.Num l.so_far;
   along : (g : Given) (t : Table)
       → Passes g (value (p.chain (view (names_in g) l.x) (terms_of (map (view_term (names_in g)) l.xs)))) (l.store, t)

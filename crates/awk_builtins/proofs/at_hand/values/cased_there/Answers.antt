@@ -29,4 +29,4 @@ returns c =
     )
     (ok_some c.cased.result (λ new is q g t. rw is (one_there g (c.args.store.now, t) q (case_of c.args.upper)
     (view (names_in g) c.x-item.result) (lent_value c.in_ok-text.text) _ (c.in_ok-text.ensures g t)
-    (case_is c.args.upper q (lent_value c.in_ok-text.text)))) c.cased.ensures.ok)
+    (λ s same. case_is c.args.upper q (lent_value c.in_ok-text.text) s))) c.cased.ensures.ok)

@@ -1,5 +1,5 @@
-use Rattle.std.proofs.Common.{rules, w64}
-use Rattle.std.proofs.lemmas.Int.{to_z-of_z}
+use Rattle.std.proofs.Common.{◌≡◌}
+use Rattle.awk_numbers.specs.declared.number.Number.TheVariants as number
 use Rattle.awk_program.specs.Program as p
 use Rattle.awk_program.specs.Program.{terms_of}
 use Rattle.awk_program.specs.View.{view_target}
@@ -11,8 +11,9 @@ use Rattle.awk_builtins.proofs.Rests.{some_for}
 use Rattle.awk_builtins.proofs.at_hand.values.plain_number.Goals as goal
 
 pub returns-in-Number : goal.returns-in-Number
-returns-in-Number c = λ g t. rw (c.in-Number.is, view-Number, to_z-of_z w64 c.in-Number.number (search rules))
-    (number_there g _ c.in-Number.number)
+returns-in-Number c =
+    some_for {P = λ n. c.in-Number.constant ≡ number.Whole n} c.as_whole.result
+    (λ n is g t. rw (c.in-Number.is, view-Number, is) (number_there g _ (number.Whole n))) c.as_whole.ensures
 
 pub returns-in-Read : goal.returns-in-Read
 returns-in-Read c =
