@@ -115,21 +115,21 @@ block_first g xs k s = ap (λ ys. held g s (Goes (Do (Each ys) ∷ k) s)) (order
 
 -- ---- what depends on a test
 
-pub if_on : (g : Given) (x : Expression) (y : Statement) (v : Value) (k : List Piece) (s : State) → truth v ≡ true
-    → advance g (At (Doing (p.if_then x y)) (v ∷ []) ∷ k) s ≡ Goes (Do (Start y) ∷ k) s
+pub if_on : (g : Given) (x : Expression) (y : Statement) (v : Value) (k : List Piece) (s : State)
+    → truth s.numbers v ≡ true → advance g (At (Doing (p.if_then x y)) (v ∷ []) ∷ k) s ≡ Goes (Do (Start y) ∷ k) s
 if_on g x y v k s e = ap (λ b. held g s (if b then Goes (Do (Start y) ∷ k) s else Goes k s)) e
 
-pub if_off : (g : Given) (x : Expression) (y : Statement) (v : Value) (k : List Piece) (s : State) → truth v ≡ false
-    → advance g (At (Doing (p.if_then x y)) (v ∷ []) ∷ k) s ≡ Goes k s
+pub if_off : (g : Given) (x : Expression) (y : Statement) (v : Value) (k : List Piece) (s : State)
+    → truth s.numbers v ≡ false → advance g (At (Doing (p.if_then x y)) (v ∷ []) ∷ k) s ≡ Goes k s
 if_off g x y v k s e = ap (λ b. held g s (if b then Goes (Do (Start y) ∷ k) s else Goes k s)) e
 
 pub either_on : (g : Given) (x : Expression) (y z : Statement) (v : Value) (k : List Piece) (s : State)
-    → truth v ≡ true →
+    → truth s.numbers v ≡ true →
     advance g (At (Doing (p.if_else x y z)) (v ∷ []) ∷ k) s ≡ Goes (Do (Start y) ∷ k) s
 either_on g x y z v k s e = ap (λ b. held g s (if b then Goes (Do (Start y) ∷ k) s else Goes (Do (Start z) ∷ k) s)) e
 
 pub either_off : (g : Given) (x : Expression) (y z : Statement) (v : Value) (k : List Piece) (s : State)
-    → truth v ≡ false →
+    → truth s.numbers v ≡ false →
     advance g (At (Doing (p.if_else x y z)) (v ∷ []) ∷ k) s ≡ Goes (Do (Start z) ∷ k) s
 either_off g x y z v k s e = ap (λ b. held g s (if b then Goes (Do (Start y) ∷ k) s else Goes (Do (Start z) ∷ k) s)) e
 
@@ -149,8 +149,8 @@ pub test_first : (g : Given) (x : Loop) (y : Expression) (k : List Piece) (s : S
 test_first g x y k s e = ap (λ o. held g s (test o x [] k s)) e
 
 pub test_then : (g : Given) (x : Loop) (y : Expression) (v : Value) (k : List Piece) (s : State) → x.test ≡ Some y
-    → advance g (At (Test x) (v ∷ []) ∷ k) s ≡ Goes (tested x (truth v) k) s
-test_then g x y v k s e = ap (λ o. held g s (test o x (v ∷ []) k s)) e ∙ by_truth g x (truth v) k s
+    → advance g (At (Test x) (v ∷ []) ∷ k) s ≡ Goes (tested x (truth s.numbers v) k) s
+test_then g x y v k s e = ap (λ o. held g s (test o x (v ∷ []) k s)) e ∙ by_truth g x (truth s.numbers v) k s
 
 pub turn_none : (g : Given) (x : Loop) (k : List Piece) (s : State) → x.step ≡ None → advance g (At (Turn x) [] ∷ k) s
     ≡ Goes (At (Test x) [] ∷ k) s

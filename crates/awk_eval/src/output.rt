@@ -178,12 +178,18 @@ pub fn printf<W: World, E: Evaluates<W>>(
     append(&mut values, format)?;
     fill(cx, xs, &mut values, on, run, world)?;
     let Some(to) = to else {
-        let text = formatted_line(cx.alloc, place, values.as_slice())?;
+        let text = formatted_line(cx.alloc, run.store.numbers(), place, values.as_slice())?;
         put(place, STANDARD_OUTPUT, text, world)?;
         return Ok(Flow::On);
     };
     let target = on.value(cx, &to.target, run, world)?;
-    let text = formatted_for(cx.alloc, place, values.as_slice(), &target)?;
+    let text = formatted_for(
+        cx.alloc,
+        run.store.numbers(),
+        place,
+        values.as_slice(),
+        &target,
+    )?;
     put_to(
         cx.alloc,
         to.place,

@@ -1,6 +1,6 @@
 -- The steps that answers about parts of a run are made of, beside those of parts that ask.
 use Rattle.std.proofs.Common.{◌≡◌, refl, sym, ◌∙◌, List, ◌∷◌}
-use Rattle.std.specs.Prelude.{ℤ, Bool, true, false, Result, Ok, Err, IfOk}
+use Rattle.std.specs.Prelude.{Bool, true, false, Result, Ok, Err, IfOk}
 use Rattle.awk_machine.specs.Advances.{advance}
 use Rattle.awk_machine.specs.Pieces.{Piece, Goes, give}
 use Rattle.awk_machine.specs.State.{Course, Given}
@@ -12,6 +12,8 @@ use Rattle.awk_streams.proofs.Chain.{at_once, changes, part, done, stop}
 use Rattle.awk_streams.specs.declared.halt.Halt.{Halt}
 use Rattle.awk_store.specs.Acts.{Passes}
 use Rattle.awk_store.specs.Wholes.{Whole, Agreeing, base, used}
+use Rattle.awk_numbers.specs.declared.number.Number.{Number}
+use Rattle.awk_numbers.specs.declared.number.Numbers.{Numbers}
 use Rattle.awk_text.specs.Values.{number_of, truth}
 use Rattle.awk_text.specs.declared.fault.Fault.{Fault}
 use Rattle.awk_text.specs.declared.value.Value.{Value}
@@ -68,13 +70,13 @@ module _ {W : Type 0} {ghosts : Ghosts W} {g : Given} {p : Piece} {old new : Who
 
 -- ---- what is told of a value
 
-pub told_number : (val : Value) (r : Result (Result ℤ Fault) Halt) (x : Result ℤ Fault) → r ≡ Ok x
-    → IfOk r (λ y. IsNumberOf y val) → x ≡ number_of val
-told_number val r x e h = rw e at h
+pub told_number : (numbers : Numbers) (val : Value) (r : Result (Result Number Fault) Halt) (x : Result Number Fault)
+    → r ≡ Ok x → IfOk r (λ y. IsNumberOf numbers y val) → x ≡ number_of numbers val
+told_number numbers val r x e h = rw e at h
 
-pub told_truth : (val : Value) (r : Result Bool Halt) (x : Bool) → r ≡ Ok x → IfOk r (λ y. IsTruthOf y val)
-    → x ≡ truth val
-told_truth val r x e h = rw e at h
+pub told_truth : (numbers : Numbers) (val : Value) (r : Result Bool Halt) (x : Bool) → r ≡ Ok x
+    → IfOk r (λ y. IsTruthOf numbers y val) → x ≡ truth numbers val
+told_truth numbers val r x e h = rw e at h
 
 -- one move more, once a part is done
 module _ {W : Type 0} {ghosts : Ghosts W} {g : Given} {p : Piece} {old new : Whole} {w w' : W} {A : Type 0}
@@ -99,24 +101,24 @@ unwanted (Err h) = tt
 -- the same, where the answer tells what the move depends on
 module _ {W : Type 0} {ghosts : Ghosts W} {g : Given} {p : Piece} {old new : Whole} {w w' : W} {on : List Piece
     → List Piece} {then_ : Bool → List Piece → List Piece} where
-  rests_told-at : (val : Value) (r : Result Bool Halt) → IfOk r (λ b. IsTruthOf b val)
+  rests_told-at : (val : Value) (r : Result Bool Halt) → IfOk r (λ b. IsTruthOf new.0.numbers b val)
       → Meets ghosts (base g) (Agreeing g) used g p (λ b. on) old w r new w' →
-      ((b : Bool) → b ≡ truth val → (k : List Piece) (hid : Hidden) (c : Course) → Agreeing g new hid c
+      ((b : Bool) → b ≡ truth new.0.numbers val → (k : List Piece) (hid : Hidden) (c : Course) → Agreeing g new hid c
       → advance g (on k) (seen (base g new hid) c) ≡ Goes (then_ b k) (seen (base g new hid) c)) →
       Meets ghosts (base g) (Agreeing g) used g p then_ old w r new w'
   rests_told-at val (Ok b) is m e = done (quietly (part b (at_once p old w) m refl) (e b is))
   rests_told-at val (Err h) is m e = stop h (λ k. refl) (at_once p old w) m refl
 
-  pub rests_told : (val : Value) {r : Result Bool Halt} → IfOk r (λ b. IsTruthOf b val)
+  pub rests_told : (val : Value) {r : Result Bool Halt} → IfOk r (λ b. IsTruthOf new.0.numbers b val)
       → Meets ghosts (base g) (Agreeing g) used g p (λ b. on) old w r new w' →
-      ((b : Bool) → b ≡ truth val → (k : List Piece) (hid : Hidden) (c : Course) → Agreeing g new hid c
+      ((b : Bool) → b ≡ truth new.0.numbers val → (k : List Piece) (hid : Hidden) (c : Course) → Agreeing g new hid c
       → advance g (on k) (seen (base g new hid) c) ≡ Goes (then_ b k) (seen (base g new hid) c)) →
       Meets ghosts (base g) (Agreeing g) used g p then_ old w r new w'
   rests_told val {r = r} is m e = rests_told-at val r is m e
 
-truth_is : (b : Bool) → b ≡ truth (of_truth b)
-truth_is true = refl
-truth_is false = refl
+truth_is : (numbers : Numbers) (b : Bool) → b ≡ truth numbers (of_truth b)
+truth_is numbers true = refl
+truth_is numbers false = refl
 
 -- a comparison that holds tells of its value that it is true
 module _ {W : Type 0} {ghosts : Ghosts W} {cx : Context} {p : Given → Piece} {old new : Whole} {w w' : W} where
@@ -124,7 +126,7 @@ module _ {W : Type 0} {ghosts : Ghosts W} {cx : Context} {p : Given → Piece} {
       → Yields ghosts cx p IsTruthOf old w r new w'
   as_truth-at (Ok b) h = record {
     val = of_truth b;
-    is = truth_is b;
+    is = truth_is new.0.numbers b;
     does =
         record { plays = λ g is. done (part b (at_once (p g) old w) (h.plays g is) refl); owns = h.owns };
   }

@@ -1,3 +1,4 @@
 pub mod Leading
+mod Stored
 pub mod Opens
 pub mod Turns

@@ -121,27 +121,32 @@ module _ {W A : Type 0} {ghosts : Ghosts W} {cx : Context} {xs : Given → List 
 
 -- ---- what depends on a truth
 
-pub and_on : (g : Given) (y : Expression) (ys : Expressions) (x : Value) (k : List Piece) (s : State) → truth x ≡ true
+pub and_on : (g : Given) (y : Expression) (ys : Expressions) (x : Value) (k : List Piece) (s : State)
+    → truth s.numbers x ≡ true
     → advance g (At (Ands_of (p.more y ys)) (x ∷ []) ∷ k) s ≡ Goes (value y ∷ At (Ands_of ys) [] ∷ k) s
 and_on g y ys x k s e =
     ap (λ b. held g s (if b then Goes (value y ∷ At (Ands_of ys) [] ∷ k) s else Goes (give (of_truth false) k) s)) e
 
-pub and_off : (g : Given) (y : Expression) (ys : Expressions) (x : Value) (k : List Piece) (s : State) → truth x ≡ false
+pub and_off : (g : Given) (y : Expression) (ys : Expressions) (x : Value) (k : List Piece) (s : State)
+    → truth s.numbers x ≡ false
     → advance g (At (Ands_of (p.more y ys)) (x ∷ []) ∷ k) s ≡ Goes (give (of_truth false) k) s
 and_off g y ys x k s e =
     ap (λ b. held g s (if b then Goes (value y ∷ At (Ands_of ys) [] ∷ k) s else Goes (give (of_truth false) k) s)) e
 
-pub or_on : (g : Given) (y : Expression) (ys : Expressions) (x : Value) (k : List Piece) (s : State) → truth x ≡ false
+pub or_on : (g : Given) (y : Expression) (ys : Expressions) (x : Value) (k : List Piece) (s : State)
+    → truth s.numbers x ≡ false
     → advance g (At (Ors_of (p.more y ys)) (x ∷ []) ∷ k) s ≡ Goes (value y ∷ At (Ors_of ys) [] ∷ k) s
 or_on g y ys x k s e =
     ap (λ b. held g s (if b then Goes (give (of_truth true) k) s else Goes (value y ∷ At (Ors_of ys) [] ∷ k) s)) e
 
-pub or_off : (g : Given) (y : Expression) (ys : Expressions) (x : Value) (k : List Piece) (s : State) → truth x ≡ true
+pub or_off : (g : Given) (y : Expression) (ys : Expressions) (x : Value) (k : List Piece) (s : State)
+    → truth s.numbers x ≡ true
     → advance g (At (Ors_of (p.more y ys)) (x ∷ []) ∷ k) s ≡ Goes (give (of_truth true) k) s
 or_off g y ys x k s e =
     ap (λ b. held g s (if b then Goes (give (of_truth true) k) s else Goes (value y ∷ At (Ors_of ys) [] ∷ k) s)) e
 
-pub choose_so : (g : Given) (x y z : Expression) (u : Value) (b : Bool) (k : List Piece) (s : State) → truth u ≡ b
+pub choose_so : (g : Given) (x y z : Expression) (u : Value) (b : Bool) (k : List Piece) (s : State)
+    → truth s.numbers u ≡ b
     → advance g (At (Value_of (p.choose x y z)) (u ∷ []) ∷ k) s ≡ held g s (if b then Goes (value y ∷ k) s else Goes
     (value z ∷ k) s)
 choose_so g x y z u b k s e = ap (λ c. held g s (if c then Goes (value y ∷ k) s else Goes (value z ∷ k) s)) e

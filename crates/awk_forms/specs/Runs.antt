@@ -1,5 +1,7 @@
 -- What a part of a run owes, over any world.
-use Rattle.std.specs.Prelude.{◌≡◌, ℕ, ℤ, IfOk, ◌+◌, Bool, List, ◌∷◌, length, reverse, slice_get, Some, Result}
+use Rattle.std.specs.Prelude.{◌≡◌, ℕ, IfOk, ◌+◌, Bool, List, ◌∷◌, length, reverse, slice_get, Some, Result}
+use Rattle.awk_numbers.specs.declared.number.Number.{Number}
+use Rattle.awk_numbers.specs.declared.number.Numbers.{Numbers}
 use Rattle.awk_text.specs.declared.fault.Fault.{Fault}
 use Rattle.awk_text.specs.declared.value.Value.{Value}
 use Rattle.awk_text.specs.Values.{number_of, truth}
@@ -36,23 +38,25 @@ pub record Does {W A : Type 0} (ghosts : Ghosts W)
   pub plays : (g : Given) → IsGiven cx g → Meets ghosts (base g) (Agreeing g) used g (p g) (to g) old w result new w'
   pub owns : Owns (ghosts.open_numbers w') new.1
 
--- the same of an answer that is no value, but tells of the value that is given what is wanted of it
+-- the same of an answer that is no value, but tells of the value that is given what is wanted of it, by the numbers of
+-- the run
 pub record Yields {W A : Type 0} (ghosts : Ghosts W)
-    (cx : Context) (p : Given → Piece) (Is : A → Value → Type 0) (old : Whole) (w : W) (result : Result A Halt)
+    (cx : Context) (p : Given → Piece) (Is : Numbers → A → Value → Type 0) (old : Whole) (w : W)
+    (result : Result A Halt)
     (new : Whole) (w' : W) : Type 0 where
   pub val : Value
-  pub is : IfOk result (λ x. Is x val)
+  pub is : IfOk result (λ x. Is new.0.numbers x val)
   pub does : Does ghosts cx p (λ g x. give val) old w result new w'
 
 -- what is told of a value
-abbrev pub IsNumberOf : Result ℤ Fault → Value → Type 0
-IsNumberOf number val = number ≡ number_of val
+abbrev pub IsNumberOf : Numbers → Result Number Fault → Value → Type 0
+IsNumberOf numbers number val = number ≡ number_of numbers val
 
-abbrev pub IsTruthOf : Bool → Value → Type 0
-IsTruthOf holds val = holds ≡ truth val
+abbrev pub IsTruthOf : Numbers → Bool → Value → Type 0
+IsTruthOf numbers holds val = holds ≡ truth numbers val
 
-abbrev pub IsUnwanted : {A : Type 0} → A → Value → Type 0
-IsUnwanted x val = Unit {0}
+abbrev pub IsUnwanted : {A : Type 0} → Numbers → A → Value → Type 0
+IsUnwanted numbers x val = Unit {0}
 
 -- ---- lists of parts
 

@@ -46,7 +46,7 @@ pub fn evaluate<W: World, E: Evaluates<W>>(
         (whole_of run.old) world.old result (whole_of run.new) world.new }
 {
     match e {
-        Expr::Number(number) => Ok(Value::Num(*number)),
+        Expr::Number(number) => Ok(Value::of(*number)),
         Expr::Text(text) => owned(cx.alloc, text.bytes()),
         Expr::Read(target) => read_target(cx, target, on, run, world),
         Expr::Assign(place, target, x) => assign(cx, *place, target, x.get(), on, run, world),
@@ -132,7 +132,13 @@ pub fn chain<W: World, E: Evaluates<W>>(
     let mut so_far = on.value(cx, x, run, world)?;
     for next in xs {
         let operand = number(cx, &next.operand, on, run, world)?;
-        so_far = operated(next.place, next.operator, &so_far, operand)?;
+        so_far = operated(
+            run.store.numbers(),
+            next.place,
+            next.operator,
+            &so_far,
+            operand,
+        )?;
     }
     Ok(so_far)
 }
@@ -217,12 +223,12 @@ fn all<W: World, E: Evaluates<W>>(
 {
     let mut last = on.value(cx, x, run, world)?;
     for y in xs {
-        if !truth(&last) {
+        if !truth(run.store.numbers(), &last) {
             return Ok(truth_value(false));
         }
         last = on.value(cx, y, run, world)?;
     }
-    Ok(truth_value(truth(&last)))
+    Ok(truth_value(truth(run.store.numbers(), &last)))
 }
 
 /// A chain of `||`.
@@ -242,12 +248,12 @@ fn any<W: World, E: Evaluates<W>>(
 {
     let mut last = on.value(cx, x, run, world)?;
     for y in xs {
-        if truth(&last) {
+        if truth(run.store.numbers(), &last) {
             return Ok(truth_value(true));
         }
         last = on.value(cx, y, run, world)?;
     }
-    Ok(truth_value(truth(&last)))
+    Ok(truth_value(truth(run.store.numbers(), &last)))
 }
 
 /// `test ? then : else`

@@ -36,7 +36,13 @@ pub fn unary<W: World, E: Evaluates<W>>(
         (whole_of run.old) world.old result (whole_of run.new) world.new }
 {
     let operand = on.value(cx, x, run, world)?;
-    form.give(cx.alloc, operand, &mut run.streams, world)
+    form.give(
+        cx.alloc,
+        run.store.numbers(),
+        operand,
+        &mut run.streams,
+        world,
+    )
 }
 
 /// A form of two operands.
@@ -57,7 +63,14 @@ pub fn binary<W: World, E: Evaluates<W>>(
 {
     let left = on.value(cx, x, run, world)?;
     let right = on.value(cx, y, run, world)?;
-    form.give(cx.alloc, left, right, &mut run.streams, world)
+    form.give(
+        cx.alloc,
+        run.store.numbers(),
+        left,
+        right,
+        &mut run.streams,
+        world,
+    )
 }
 
 /// A built-in function of three arguments.
@@ -85,6 +98,7 @@ fn ternary<W: World, E: Evaluates<W>>(
     let third = on.value(cx, z, run, world)?;
     called(
         cx.alloc,
+        run.store.numbers(),
         place,
         which,
         &[first, second, third],
@@ -113,6 +127,7 @@ fn several<W: World, E: Evaluates<W>>(
     fill(cx, args, &mut values, on, run, world)?;
     called(
         cx.alloc,
+        run.store.numbers(),
         place,
         which,
         values.as_slice(),

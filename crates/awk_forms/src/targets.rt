@@ -23,6 +23,7 @@ use awk_builtins::at_hand::elements::{element_at_hand, read_at_key, step_at_key}
 use awk_builtins::at_hand::growth::assigned;
 use awk_builtins::keys::field_number;
 use awk_builtins::made::{computed_at, stepped_at};
+use awk_numbers::number::Number;
 use awk_program::{Expr, Operator, Step, StepValue, Target, Variable};
 use awk_store::targets::{read, set, stored};
 use awk_store::variables::{read_variable, set_variable};
@@ -48,7 +49,7 @@ fn field<W: World, E: Evaluates<W>>(
     ensures spot { IfOk result (λ s. (names : List (List ℕ)) → IsSpotOf names (p.field place (view names x.now)) s) }
 {
     let operand = on.value(cx, x, run, world)?;
-    Ok(Spot::Field(field_number(place, &operand)?))
+    Ok(Spot::Field(field_number(run.store.numbers(), place, &operand)?))
 }
 
 /// What is read or set: its subscripts or its number come first.
@@ -220,8 +221,8 @@ fn alter_variable<W: World, E: Evaluates<W>>(
 {
     let operand = on.value(cx, x, run, world)?;
     let old = read_variable(&mut run.store, variable)?;
-    let number = computed_at(place, how, &old, &operand)?;
-    set_variable(&mut run.store, variable, place, Value::Num(number))
+    let number = computed_at(run.store.numbers(), place, how, &old, &operand)?;
+    set_variable(&mut run.store, variable, place, Value::of(number))
 }
 
 /// `target += value`, and with the other operators, whose value nothing wants.
@@ -247,8 +248,8 @@ pub fn alter<W: World, E: Evaluates<W>>(
     let to = target_of(cx, target, on, run, world)?;
     let operand = on.value(cx, x, run, world)?;
     let old = read(&mut run.store, &to)?;
-    let number = computed_at(place, how, &old, &operand)?;
-    set(cx.alloc, &mut run.store, to, place, Value::Num(number))
+    let number = computed_at(run.store.numbers(), place, how, &old, &operand)?;
+    set(cx.alloc, &mut run.store, to, place, Value::of(number))
 }
 
 /// Steps what is read and set, whose subscripts or number are evaluated first.
@@ -260,7 +261,7 @@ fn general_step<W: World, E: Evaluates<W>>(
     on: E,
     run: &mut Run,
     world: &mut W,
-) -> Result<(i64, i64), Halt>
+) -> Result<(Number, Number), Halt>
     requires can { E.can on }
     requires owns { Owns (W.open_numbers world.old) run.old.streams }
     ensures { (taken : Which) →
@@ -270,8 +271,8 @@ fn general_step<W: World, E: Evaluates<W>>(
 {
     let to = target_of(cx, target, on, run, world)?;
     let old = read(&mut run.store, &to)?;
-    let (before, behind) = stepped_at(place, how, &old)?;
-    set(cx.alloc, &mut run.store, to, place, Value::Num(behind))?;
+    let (before, behind) = stepped_at(run.store.numbers(), place, how, &old)?;
+    set(cx.alloc, &mut run.store, to, place, Value::of(behind))?;
     Ok((before, behind))
 }
 
@@ -285,7 +286,7 @@ fn step_element_target<W: World, E: Evaluates<W>>(
     on: E,
     run: &mut Run,
     world: &mut W,
-) -> Result<(i64, i64), Halt>
+) -> Result<(Number, Number), Halt>
     requires can { E.can on }
     requires owns { Owns (W.open_numbers world.old) run.old.streams }
     ensures { (taken : Which) →
@@ -301,7 +302,7 @@ fn step_element_target<W: World, E: Evaluates<W>>(
 
 /// What `stepped_variable` does, where the target is a variable.
 #[inline(always)]
-fn stepped_at_once(store: &mut Store, how: Step, target: &Target<Expr>) -> Option<(i64, i64)>
+fn stepped_at_once(store: &mut Store, how: Step, target: &Target<Expr>) -> Option<(Number, Number)>
     ensures done { IfSome result
         (λ n. (g : Given) (t : Table) (place : Place) (taken : Which) →
         Passes g (value (p.step place how taken (view_target (names_in g) target.now))) (store.old, t)
@@ -323,7 +324,7 @@ pub fn step_target<W: World, E: Evaluates<W>>(
     on: E,
     run: &mut Run,
     world: &mut W,
-) -> Result<(i64, i64), Halt>
+) -> Result<(Number, Number), Halt>
     requires can { E.can on }
     requires owns { Owns (W.open_numbers world.old) run.old.streams }
     ensures { (taken : Which) →
@@ -358,7 +359,7 @@ pub fn assign<W: World, E: Evaluates<W>>(
 {
     let to = target_of(cx, target, on, run, world)?;
     let mut new = on.value(cx, x, run, world)?;
-    let Ok(kept) = stored(cx.alloc, &to, &mut new) else {
+    let Ok(kept) = stored(cx.alloc, run.store.numbers(), &to, &mut new) else {
         return Err(Halt::Memory);
     };
     set(cx.alloc, &mut run.store, to, place, new)?;
@@ -385,11 +386,12 @@ pub fn change<W: World, E: Evaluates<W>>(
     let to = target_of(cx, target, on, run, world)?;
     let operand = on.value(cx, x, run, world)?;
     let old = read(&mut run.store, &to)?;
-    let number = computed_at(place, how, &old, &operand)?;
-    let Ok(kept) = stored(cx.alloc, &to, &mut Value::Num(number)) else {
+    let numbers = run.store.numbers();
+    let number = computed_at(numbers, place, how, &old, &operand)?;
+    let Ok(kept) = stored(cx.alloc, numbers, &to, &mut Value::of(number)) else {
         return Err(Halt::Memory);
     };
-    set(cx.alloc, &mut run.store, to, place, Value::Num(number))?;
+    set(cx.alloc, &mut run.store, to, place, Value::of(number))?;
     Ok(kept)
 }
 
@@ -412,7 +414,7 @@ pub fn increment<W: World, E: Evaluates<W>>(
 {
     let (before, behind) = step_target(cx, place, how, target, on, run, world)?;
     match taken {
-        StepValue::Before => Ok(Value::Num(before)),
-        StepValue::Behind => Ok(Value::Num(behind)),
+        StepValue::Before => Ok(Value::of(before)),
+        StepValue::Behind => Ok(Value::of(behind)),
     }
 }

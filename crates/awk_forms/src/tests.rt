@@ -17,6 +17,7 @@ use awk_builtins::at_hand::tests::{split_for_test, truth_at_hand};
 use awk_builtins::at_hand::values::{MOST_LEVELS, at_hand, number_at_hand};
 use awk_builtins::operators::{compared, compared_lent};
 use awk_builtins::patterns::matches_record;
+use awk_numbers::number::Number;
 use awk_program::{Comparison, Expr};
 use awk_streams::halt::Halt;
 use awk_text::fault::Fault;
@@ -31,17 +32,17 @@ pub fn number<W: World, E: Evaluates<W>>(
     on: E,
     run: &mut Run,
     world: &mut W,
-) -> Result<Result<i64, Fault>, Halt>
+) -> Result<Result<Number, Fault>, Halt>
     requires can { E.can on }
     requires owns { Owns (W.open_numbers world.old) run.old.streams }
     ensures { Yields W.World cx.now (λ g. value (view (names_in g) e.now)) IsNumberOf
         (whole_of run.old) world.old result (whole_of run.new) world.new }
 {
     if let Some(known) = number_at_hand(&run.store, e, MOST_LEVELS) {
-        return Ok(Ok(known));
+        return Ok(Ok(Number::Whole(known)));
     }
     let found = on.value(cx, e, run, world)?;
-    Ok(number_of(&found))
+    Ok(number_of(run.store.numbers(), &found))
 }
 
 /// Whether the value of an expression is true, where no split of the record would bring more to hand. What is at hand
@@ -132,7 +133,7 @@ fn general_truth<W: World, E: Evaluates<W>>(
         Expr::Not(x) => is_untrue(cx, x.get(), below, run, world),
         _ => {
             let found = on.value(cx, e, run, world)?;
-            Ok(truth(&found))
+            Ok(truth(run.store.numbers(), &found))
         }
     }
 }
@@ -173,7 +174,7 @@ fn is_untrue<W: World, E: Evaluates<W>>(
         (whole_of run.old) world.old result (whole_of run.new) world.new }
 {
     let found = operand(cx, x, on, run, world)?;
-    Ok(!truth(&found))
+    Ok(!truth(run.store.numbers(), &found))
 }
 
 /// Whether a comparison holds.
@@ -194,8 +195,8 @@ fn compare<W: World, E: Evaluates<W>>(
 {
     let one = operand(cx, x, on, run, world)?;
     if let Some(other) = at_hand(&run.store, y, MOST_LEVELS) {
-        return Ok(compared_lent(how, Lent::of(&one), other));
+        return Ok(compared_lent(run.store.numbers(), how, Lent::of(&one), other));
     }
     let other = on.value(cx, y, run, world)?;
-    Ok(compared(how, &one, &other))
+    Ok(compared(run.store.numbers(), how, &one, &other))
 }

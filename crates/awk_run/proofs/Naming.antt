@@ -6,6 +6,7 @@ use Rattle.std.specs.List.{list_any}
 use Rattle.std.specs.Str.{bytes_eq}
 use Rattle.std.proofs.lemmas.List.Folds.{list_any_at, list_any-append}
 use Rattle.std.proofs.lemmas.Slice.Eq.{bytes_eq-Decides}
+use Rattle.awk_numbers.specs.declared.number.Numbers.{Numbers}
 use Rattle.awk_tokens.specs.Words.{is_among}
 use Rattle.awk_tree.specs.Tree as t
 use Rattle.awk_tree.specs.Tree.{Text, Entry}
@@ -267,19 +268,21 @@ append_map : {A B : Type 0} (f : A → B) (xs ys : List A) → map f (xs ++ ys) 
 append_map f [] ys = refl
 append_map f (x ∷ xs) ys = ap (λ zs. f x ∷ zs) (append_map f xs ys)
 
-one_function : (n : Tables) (x : Entry) → map (λ f. f.name) (functions_of n x) ≡ texts (defined_by (part x).role)
-one_function n (t.at_begin xs) = refl
-one_function n (t.at_end xs) = refl
-one_function n (t.always xs) = refl
-one_function n (t.shown x) = refl
-one_function n (t.rule x xs) = refl
-one_function n (t.function f ps xs) = refl
+one_function : (numbers : Numbers) (n : Tables) (x : Entry) → map (λ f. f.name) (functions_of numbers n x)
+    ≡ texts (defined_by (part x).role)
+one_function numbers n (t.at_begin xs) = refl
+one_function numbers n (t.at_end xs) = refl
+one_function numbers n (t.always xs) = refl
+one_function numbers n (t.shown x) = refl
+one_function numbers n (t.rule x xs) = refl
+one_function numbers n (t.function f ps xs) = refl
 
-pub functions_named : (n : Tables) (items : List Entry) → map (λ f. f.name) (each (functions_of n) items)
+pub functions_named : (numbers : Numbers) (n : Tables) (items : List Entry)
+    → map (λ f. f.name) (each (functions_of numbers n) items)
     ≡ texts (defined (map part items))
-functions_named n [] = refl
-functions_named n (x ∷ xs) =
-    append_map (λ f. f.name) (functions_of n x) (each (functions_of n) xs)
-    ∙ ap (λ ys. ys ++ map (λ f. f.name) (each (functions_of n) xs)) (one_function n x)
-    ∙ ap (λ ys. texts (defined_by (part x).role) ++ ys) (functions_named n xs)
+functions_named numbers n [] = refl
+functions_named numbers n (x ∷ xs) =
+    append_map (λ f. f.name) (functions_of numbers n x) (each (functions_of numbers n) xs)
+    ∙ ap (λ ys. ys ++ map (λ f. f.name) (each (functions_of numbers n) xs)) (one_function numbers n x)
+    ∙ ap (λ ys. texts (defined_by (part x).role) ++ ys) (functions_named numbers n xs)
     ∙ sym (texts_append (defined_by (part x).role) (defined (map part xs)))

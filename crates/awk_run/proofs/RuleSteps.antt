@@ -35,12 +35,12 @@ use Rattle.awk_run.specs.Runs.{DoesIn}
 -- ---- the rule of an expression
 
 pub holds_on : (g : Given) (n : ℕ) (y : Expression) (xs : List Statement) (v : Value) (k : List Piece) (s : State)
-    → truth v ≡ true →
+    → truth s.numbers v ≡ true →
     advance g (At (Choosing n (rule_of (p.holds y) xs)) (v ∷ []) ∷ k) s ≡ Goes (action (rule_of (p.holds y) xs) k) s
 holds_on g n y xs v k s e = ap (λ b. held g s (if b then Goes (action (rule_of (p.holds y) xs) k) s else Goes k s)) e
 
 pub holds_off : (g : Given) (n : ℕ) (y : Expression) (xs : List Statement) (v : Value) (k : List Piece) (s : State)
-    → truth v ≡ false →
+    → truth s.numbers v ≡ false →
     advance g (At (Choosing n (rule_of (p.holds y) xs)) (v ∷ []) ∷ k) s ≡ Goes k s
 holds_off g n y xs v k s e = ap (λ b. held g s (if b then Goes (action (rule_of (p.holds y) xs) k) s else Goes k s)) e
 
@@ -52,16 +52,16 @@ pattern_by : (g : Given) (n : ℕ) (y z : Expression) (xs : List Statement) (b :
     ≡ Goes (value (if b then z else y) ∷ At (Choosing n (rule_of (p.range y z) xs)) [] ∷ k) s
 pattern_by g n y z xs true k s e =
     ap (λ b. held g s (if b then unary (value z) (Choosing n (rule_of (p.range y z) xs))
-    (λ v k s. Goes (action (rule_of (p.range y z) xs) k) (if truth v then with_on n false s else s)) [] k s
+    (λ v k s. Goes (action (rule_of (p.range y z) xs) k) (if truth s.numbers v then with_on n false s else s)) [] k s
     else unary (value y) (Choosing n (rule_of (p.range y z) xs))
-    (λ v k s. if truth v then Goes (At (Choosing n (rule_of (p.range y z) xs)) [] ∷ k) (with_on n true s) else Goes
-    k s) [] k s)) e
+    (λ v k s. if truth s.numbers v then Goes (At (Choosing n (rule_of (p.range y z) xs)) [] ∷ k) (with_on n true s)
+    else Goes k s) [] k s)) e
 pattern_by g n y z xs false k s e =
     ap (λ b. held g s (if b then unary (value z) (Choosing n (rule_of (p.range y z) xs))
-    (λ v k s. Goes (action (rule_of (p.range y z) xs) k) (if truth v then with_on n false s else s)) [] k s
+    (λ v k s. Goes (action (rule_of (p.range y z) xs) k) (if truth s.numbers v then with_on n false s else s)) [] k s
     else unary (value y) (Choosing n (rule_of (p.range y z) xs))
-    (λ v k s. if truth v then Goes (At (Choosing n (rule_of (p.range y z) xs)) [] ∷ k) (with_on n true s) else Goes
-    k s) [] k s)) e
+    (λ v k s. if truth s.numbers v then Goes (At (Choosing n (rule_of (p.range y z) xs)) [] ∷ k) (with_on n true s)
+    else Goes k s) [] k s)) e
 
 view_by : (names : Names) (b : Bool) (first last : Expr) → view names (if b then last else first)
     ≡ (if b then view names last else view names first)

@@ -10,6 +10,7 @@ use Rattle.awk_run.specs.SetupParts.{SetupParts}
 abbrev pub given_of : Script → SetupParts → ℕ → Given
 given_of s setup steps = record {
   program = view_program s.program;
+  numbers = setup.numbers;
   can_assign = can_assign s.kinds;
   names_environ = s.names_environ;
   operands = setup.operands;

@@ -1,5 +1,6 @@
 -- What the host of a script's run is told.
 use Rattle.std.specs.Prelude.{ℕ, ◌+◌, Bool, if◌then◌else◌, List, [], ◌∷◌, map}
+use Rattle.awk_numbers.specs.declared.number.Numbers.{Numbers}
 use Rattle.awk_resolve.specs.Assigns.{can_assign}
 use Rattle.awk_parse.specs.declared.script.Script.{Script}
 use Rattle.awk_program.specs.Slots.{Text}
@@ -24,10 +25,11 @@ abbrev pub with_functions : List Text → Hosted → Hosted
 with_functions [] h = h
 with_functions (x ∷ xs) h = with_functions xs (with_name x Barred h)
 
-abbrev pub nothing_told : ℕ → Hosted
-nothing_told steps = record { bound = steps; words = []; names = [] }
+abbrev pub nothing_told : Numbers → ℕ → Hosted
+nothing_told numbers steps = record { bound = steps; numbers = numbers; words = []; names = [] }
 
 abbrev pub host_of : Script → SetupParts → ℕ → Hosted
 host_of s setup steps =
     with_functions (map (λ f. f.name) s.program.functions)
-    (with_variables (can_assign s.kinds) 0 (names_of s.program) (with_words setup.operands (nothing_told steps)))
+    (with_variables (can_assign s.kinds) 0 (names_of s.program)
+    (with_words setup.operands (nothing_told setup.numbers steps)))

@@ -6,15 +6,17 @@ use Rattle.std.specs.Fmt.{decimal}
 use Rattle.std.specs.Ordering.{nat_cmp}
 use Rattle.std.specs.declared.cmp.Ordering.{Ordering}
 use Rattle.std.specs.declared.cmp.Ordering.TheVariants.{Less, Equal, Greater}
+use Rattle.awk_numbers.specs.declared.number.Numbers.{Numbers}
 use Rattle.awk_run.specs.declared.setup.SetupError.{SetupError}
 use Rattle.awk_tokens.specs.Words.{is_name}
 
--- the operand words, the names of the environment, the pairs of `-v`, and the text of `-F`
+-- the operand words, the names of the environment, the pairs of `-v`, the text of `-F`, and the numbers of the script
 pub record SetupParts : Type 0 where
   pub operands : List (List ℕ)
   pub names : List (List ℕ)
   pub assigns : List (List ℕ × List ℕ)
   pub separator : Option (List ℕ)
+  pub numbers : Numbers
 
 -- the number of the first pair whose name is not spelled as one; they are numbered from n
 abbrev pub first_unspelled : ℕ → List (List ℕ × List ℕ) → Option ℕ

@@ -4,6 +4,7 @@ ghost use Rattle.std.specs.Option.{option_copied};
 ghost use Rattle.std.specs.Prelude.{MatchBool, MatchOption, Some, length, ◌<◌, ◌^◌, ◌≡◌};
 
 use awk_hash::Seed;
+use awk_numbers::number::Numbers;
 use awk_text::octets::Octets;
 use awk_tokens::is_name;
 use std::cmp::Ordering;
@@ -12,13 +13,15 @@ use std::fmt;
 use std::marker::Model;
 
 /// What a run is started with: the operand words, the names of the environment that it may ask for,
-/// the pairs of `-v`, the text of `-F`, and what its tables hash by, which no answer shows.
+/// the pairs of `-v`, the text of `-F`, which numbers the script has, and what its tables hash by,
+/// which no answer shows.
 #[derive(Drop)]
 pub struct Setup {
     operands: Vec<Octets>,
     names: Vec<Octets>,
     assigns: Vec<(Octets, Octets)>,
     separator: Option<Octets>,
+    numbers: Numbers,
     seed: Seed,
 }
 
@@ -32,6 +35,7 @@ impl Model for Setup {
       names = s.names.items;
       assigns = s.assigns.items;
       separator = s.separator;
+      numbers = s.numbers;
     } };
 
     // so that the number of each pair is a u32
@@ -96,8 +100,8 @@ fn ascends(names: &[Octets]) -> bool
 }
 
 impl Setup {
-    /// The setup of these words. Fewer than 2^32 pairs are the caller's duty. Its tables hash by a fixed seed
-    /// (`seeded`). Takes no memory.
+    /// The setup of these words, for whole numbers (else `numbered`). Fewer than 2^32 pairs are the caller's duty. Its
+    /// tables hash by a fixed seed (`seeded`). Takes no memory.
     ///
     /// Refused as U1 where the name of a pair is not spelled as a name, and else as U2 where the names
     /// of the environment do not ascend.
@@ -115,6 +119,7 @@ impl Setup {
               names = names.items;
               assigns = assigns.items;
               separator = separator;
+              numbers = Numbers.Whole;
             }))
             (result ≡ Err (record { code = 2; pair = 0 })))
             (λ pair. result ≡ Err (record { code = 1; pair = pair })) }
@@ -136,8 +141,18 @@ impl Setup {
             names,
             assigns,
             separator,
+            numbers: Numbers::Whole,
             seed: Seed::of(0),
         })
+    }
+
+    /// The same setup, for a script that was read with these numbers and has them. Takes no memory.
+    pub fn numbered(self, numbers: Numbers) -> Setup
+        ensures { result ≡ record self { numbers = numbers } }
+    {
+        let mut setup = self;
+        setup.numbers = numbers;
+        setup
     }
 
     /// The same setup, whose tables hash by this seed: whoever writes the data and doesn't know it can't pick keys that
@@ -148,6 +163,13 @@ impl Setup {
         let mut setup = self;
         setup.seed = seed;
         setup
+    }
+
+    /// Which numbers the script has. Takes no memory.
+    pub fn numbers(&self) -> Numbers
+        ensures { result ≡ self.now.numbers }
+    {
+        self.numbers
     }
 
     /// What the tables of the run hash by. Takes no memory.

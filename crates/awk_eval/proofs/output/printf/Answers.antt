@@ -66,7 +66,7 @@ returns-in_err-text g c =
           c.in_ok-fill.was) (acted (rw c.as_slice.ensures.value at (c.formatted_line.ensures m (
             c.fill.new.run.store,
             c.fill.new.run.streams,
-          ) (view (names_in m) c.args.x.now) (map (view (names_in m)) c.args.xs.now)
+          ) (view (names_in m) c.args.x.now) (map (view (names_in m)) c.args.xs.now) c.numbers.ensures
           (rw c.as_slice.ensures.value (count_formatted (view (names_in m)) (view (names_in m) c.args.x.now) c.args.xs.now
           _ _ _ (c.in_ok-append.ensures.ok ∙ ap (λ vs. vs ++ c.in_ok-format.format ∷ []) c.new-values.ensures.items)
           c.in_ok-fill.ensures.count))))) c.in_err-text.was;
@@ -87,7 +87,7 @@ returns-in_err-put g c =
           c.in_ok-fill.was) (acted (rw c.as_slice.ensures.value at (c.formatted_line.ensures m (
             c.fill.new.run.store,
             c.fill.new.run.streams,
-          ) (view (names_in m) c.args.x.now) (map (view (names_in m)) c.args.xs.now)
+          ) (view (names_in m) c.args.x.now) (map (view (names_in m)) c.args.xs.now) c.numbers.ensures
           (rw c.as_slice.ensures.value (count_formatted (view (names_in m)) (view (names_in m) c.args.x.now) c.args.xs.now
           _ _ _ (c.in_ok-append.ensures.ok ∙ ap (λ vs. vs ++ c.in_ok-format.format ∷ []) c.new-values.ensures.items)
           c.in_ok-fill.ensures.count))))) c.in_ok-text.was)
@@ -109,7 +109,7 @@ returns-in_default g c =
           c.in_ok-fill.was) (acted (rw c.as_slice.ensures.value at (c.formatted_line.ensures m (
             c.fill.new.run.store,
             c.fill.new.run.streams,
-          ) (view (names_in m) c.args.x.now) (map (view (names_in m)) c.args.xs.now)
+          ) (view (names_in m) c.args.x.now) (map (view (names_in m)) c.args.xs.now) c.numbers.ensures
           (rw c.as_slice.ensures.value (count_formatted (view (names_in m)) (view (names_in m) c.args.x.now) c.args.xs.now
           _ _ _ (c.in_ok-append.ensures.ok ∙ ap (λ vs. vs ++ c.in_ok-format.format ∷ []) c.new-values.ensures.items)
           c.in_ok-fill.ensures.count))))) c.in_ok-text.was)
@@ -162,7 +162,7 @@ returns-in_err-text-2 g c =
             c.value-2.new.run.store,
             c.value-2.new.run.streams,
           ) (view (names_in m) c.args.x.now) (map (view (names_in m)) c.args.xs.now)
-          (view_redirection (names_in m) c.in-Some.to)
+          (view_redirection (names_in m) c.in-Some.to) c.numbers-2.ensures
           (rw c.as_slice-2.ensures.value (count_formatted (view (names_in m)) (view (names_in m) c.args.x.now)
           c.args.xs.now _ _ _ (c.in_ok-append.ensures.ok ∙ ap (λ vs. vs ++ c.in_ok-format.format ∷ [])
           c.new-values.ensures.items) c.in_ok-fill.ensures.count))))) c.in_err-text-2.was;
@@ -197,7 +197,7 @@ returns-in_err-put_to g c =
             c.value-2.new.run.store,
             c.value-2.new.run.streams,
           ) (view (names_in m) c.args.x.now) (map (view (names_in m)) c.args.xs.now)
-          (view_redirection (names_in m) c.in-Some.to)
+          (view_redirection (names_in m) c.in-Some.to) c.numbers-2.ensures
           (rw c.as_slice-2.ensures.value (count_formatted (view (names_in m)) (view (names_in m) c.args.x.now)
           c.args.xs.now _ _ _ (c.in_ok-append.ensures.ok ∙ ap (λ vs. vs ++ c.in_ok-format.format ∷ [])
           c.new-values.ensures.items) c.in_ok-fill.ensures.count))))) c.in_ok-text-2.was)
@@ -232,7 +232,7 @@ returns g c =
             c.value-2.new.run.store,
             c.value-2.new.run.streams,
           ) (view (names_in m) c.args.x.now) (map (view (names_in m)) c.args.xs.now)
-          (view_redirection (names_in m) c.in-Some.to)
+          (view_redirection (names_in m) c.in-Some.to) c.numbers-2.ensures
           (rw c.as_slice-2.ensures.value (count_formatted (view (names_in m)) (view (names_in m) c.args.x.now)
           c.args.xs.now _ _ _ (c.in_ok-append.ensures.ok ∙ ap (λ vs. vs ++ c.in_ok-format.format ∷ [])
           c.new-values.ensures.items) c.in_ok-fill.ensures.count))))) c.in_ok-text-2.was)

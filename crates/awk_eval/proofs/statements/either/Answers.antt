@@ -23,7 +23,7 @@ returns-then-holds g c =
           (quietly (part _ (quietly (at_once _ _ _) (λ k hid d a. refl)) (c.truth_of.ensures.does.plays m is)
           c.in_ok-holds.was) (λ k hid d a. either_on m (view (names_in m) c.args.test.now)
           (view_statement (names_in m) c.args.then.now) (view_statement (names_in m) c.args.other.now)
-          c.truth_of.ensures.val k _ (sym (told_truth c.truth_of.ensures.val _ _ c.in_ok-holds.was c.truth_of.ensures.is)
+          c.truth_of.ensures.val k _ (sym (told_truth _ c.truth_of.ensures.val _ _ c.in_ok-holds.was c.truth_of.ensures.is)
           ∙ c.if-holds.true))) (c.statement.ensures.plays m is);
       owns = c.statement.ensures.owns;
     }
@@ -35,7 +35,7 @@ returns-else-holds g c =
           (quietly (part _ (quietly (at_once _ _ _) (λ k hid d a. refl)) (c.truth_of.ensures.does.plays m is)
           c.in_ok-holds.was) (λ k hid d a. either_off m (view (names_in m) c.args.test.now)
           (view_statement (names_in m) c.args.then.now) (view_statement (names_in m) c.args.other.now)
-          c.truth_of.ensures.val k _ (sym (told_truth c.truth_of.ensures.val _ _ c.in_ok-holds.was c.truth_of.ensures.is)
+          c.truth_of.ensures.val k _ (sym (told_truth _ c.truth_of.ensures.val _ _ c.in_ok-holds.was c.truth_of.ensures.is)
           ∙ c.if-holds.false))) (c.statement-else-holds.ensures.plays m is);
       owns = c.statement-else-holds.ensures.owns;
     }

@@ -23,7 +23,7 @@ returns-then-holds g c =
           (quietly (part _ (quietly (at_once _ _ _) (λ k hid d a. refl)) (c.truth_of.ensures.does.plays m is)
           c.in_ok-holds.was) (λ k hid d a. if_on m (view (names_in m) c.args.test.now)
           (view_statement (names_in m) c.args.then.now) c.truth_of.ensures.val k _
-          (sym (told_truth c.truth_of.ensures.val _ _ c.in_ok-holds.was c.truth_of.ensures.is) ∙ c.if-holds.true)))
+          (sym (told_truth _ c.truth_of.ensures.val _ _ c.in_ok-holds.was c.truth_of.ensures.is) ∙ c.if-holds.true)))
           (c.statement.ensures.plays m is);
       owns = c.statement.ensures.owns;
     }
@@ -35,6 +35,6 @@ returns-else-holds g c =
           (quietly (part _ (quietly (at_once _ _ _) (λ k hid d a. refl)) (c.truth_of.ensures.does.plays m is)
           c.in_ok-holds.was) (λ k hid d a. if_off m (view (names_in m) c.args.test.now)
           (view_statement (names_in m) c.args.then.now) c.truth_of.ensures.val k _
-          (sym (told_truth c.truth_of.ensures.val _ _ c.in_ok-holds.was c.truth_of.ensures.is) ∙ c.if-holds.false)));
+          (sym (told_truth _ c.truth_of.ensures.val _ _ c.in_ok-holds.was c.truth_of.ensures.is) ∙ c.if-holds.false)));
       owns = c.truth_of.ensures.does.owns;
     }

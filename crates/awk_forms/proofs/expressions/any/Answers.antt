@@ -36,7 +36,7 @@ returns-then-truth g c =
           (next_of c.args.xs.now c.loop-y.y-index c.y-item.result c.y-item.is c.loop-y-test.true)))
           (λ k hid d a. or_off m (view (names_in m) c.y-item.result)
           (expressions_of (map (view (names_in m)) (drop (c.loop-y.y-index + 1) c.args.xs.now))) c.loop-y.last k _
-          (sym c.truth.ensures ∙ c.if-truth.true))));
+          (sym (rw c.numbers.ensures at c.truth.ensures) ∙ c.if-truth.true))));
       owns = c.loop-y.invariant.owns;
     }
 
@@ -50,7 +50,8 @@ returns-in_err-last-2 g c =
           (next_of c.args.xs.now c.loop-y.y-index c.y-item.result c.y-item.is c.loop-y-test.true)))
           (λ k hid d a. or_on m (view (names_in m) c.y-item.result)
           (expressions_of (map (view (names_in m)) (drop (c.loop-y.y-index + 1) c.args.xs.now))) c.loop-y.last k _
-          (sym c.truth.ensures ∙ c.if-truth.false))) (c.value-in-loop-y.ensures.plays m is) c.in_err-last-2.was);
+          (sym (rw c.numbers.ensures at c.truth.ensures) ∙ c.if-truth.false)))
+          (c.value-in-loop-y.ensures.plays m is) c.in_err-last-2.was);
       owns = c.value-in-loop-y.ensures.owns;
     })
 
@@ -63,7 +64,8 @@ loop-y-preserved g c =
           (next_of c.args.xs.now c.loop-y.y-index c.y-item.result c.y-item.is c.loop-y-test.true)))
           (λ k hid d a. or_on m (view (names_in m) c.y-item.result)
           (expressions_of (map (view (names_in m)) (drop (c.loop-y.y-index + 1) c.args.xs.now))) c.loop-y.last k _
-          (sym c.truth.ensures ∙ c.if-truth.false))) (c.value-in-loop-y.ensures.plays m is) c.in_ok-last-2.was);
+          (sym (rw c.numbers.ensures at c.truth.ensures) ∙ c.if-truth.false)))
+          (c.value-in-loop-y.ensures.plays m is) c.in_ok-last-2.was);
       owns =
           c.value-in-loop-y.ensures.owns;
     }
@@ -71,7 +73,7 @@ loop-y-preserved g c =
 pub returns : goal.returns
 returns g c =
     record {
-      plays = λ m is. rw (c.truth_value-2.ensures, c.truth-2.ensures)
+      plays = λ m is. rw (c.truth_value-2.ensures, c.truth-2.ensures, c.numbers-2.ensures)
           (done (quietly (turned (c.loop-y.invariant.leads m is)
           (λ k. ap (λ xs. At (Ors_of (expressions_of (map (view (names_in m)) xs))) (c.loop-y.last ∷ []) ∷ k)
           (drop_all c.args.xs.now c.loop-y.y-index c.loop-y-test.false))) (λ k hid d a. refl)));

@@ -53,7 +53,9 @@ returns-in_err-so_far-2 g c =
           (acted (c.operated.ensures m (c.number.new.run.store, c.number.new.run.streams)
           (view (names_in m) c.next-item.result.operand)
           (terms_of (map (view_term (names_in m)) (drop (c.loop-next.next-index + 1) c.args.xs.now)))
-          c.number.ensures.val (told_number c.number.ensures.val _ _ c.in_ok-operand.was c.number.ensures.is)))
+          c.number.ensures.val c.numbers.ensures
+          (rw c.numbers.ensures (told_number c.number.new.run.store.numbers c.number.ensures.val _ _
+          c.in_ok-operand.was c.number.ensures.is))))
           c.in_err-so_far-2.was);
       owns = c.number.ensures.does.owns;
     })
@@ -68,8 +70,10 @@ loop-next-preserved g c =
           (λ k hid d a. refl)) (c.number.ensures.does.plays m is) c.in_ok-operand.was)
           (acted (c.operated.ensures m (c.number.new.run.store, c.number.new.run.streams)
           (view (names_in m) c.next-item.result.operand)
-          (terms_of (map (view_term (names_in m)) (drop (c.loop-next.next-index + 1) c.args.xs.now))) c.number.ensures.val
-          (told_number c.number.ensures.val _ _ c.in_ok-operand.was c.number.ensures.is))) c.in_ok-so_far-2.was);
+          (terms_of (map (view_term (names_in m)) (drop (c.loop-next.next-index + 1) c.args.xs.now)))
+          c.number.ensures.val
+          c.numbers.ensures (rw c.numbers.ensures (told_number c.number.new.run.store.numbers c.number.ensures.val _ _
+          c.in_ok-operand.was c.number.ensures.is)))) c.in_ok-so_far-2.was);
       owns =
           c.number.ensures.does.owns;
     }

@@ -23,7 +23,8 @@ returns-then-holds g c =
           (quietly (part _ (quietly (at_once _ _ _) (λ k hid d a. refl)) (c.truth_of.ensures.does.plays m is)
           c.in_ok-holds.was) (λ k hid d a. choose_so m (view (names_in m) c.args.x.now) (view (names_in m) c.args.y.now)
           (view (names_in m) c.args.z.now) c.truth_of.ensures.val true k _
-          (sym (told_truth c.truth_of.ensures.val _ _ c.in_ok-holds.was c.truth_of.ensures.is) ∙ c.if-holds.true)))
+          (sym (told_truth c.truth_of.new.run.store.numbers c.truth_of.ensures.val _ _ c.in_ok-holds.was
+          c.truth_of.ensures.is) ∙ c.if-holds.true)))
           (c.value.ensures.plays m is);
       owns = c.value.ensures.owns;
     }
@@ -35,7 +36,8 @@ returns-else-holds g c =
           (quietly (part _ (quietly (at_once _ _ _) (λ k hid d a. refl)) (c.truth_of.ensures.does.plays m is)
           c.in_ok-holds.was) (λ k hid d a. choose_so m (view (names_in m) c.args.x.now) (view (names_in m) c.args.y.now)
           (view (names_in m) c.args.z.now) c.truth_of.ensures.val false k _
-          (sym (told_truth c.truth_of.ensures.val _ _ c.in_ok-holds.was c.truth_of.ensures.is) ∙ c.if-holds.false)))
+          (sym (told_truth c.truth_of.new.run.store.numbers c.truth_of.ensures.val _ _ c.in_ok-holds.was
+          c.truth_of.ensures.is) ∙ c.if-holds.false)))
           (c.value-else-holds.ensures.plays m is);
       owns = c.value-else-holds.ensures.owns;
     }

@@ -6,8 +6,7 @@ use Rattle.awk_program.proofs.Views.{view-Count, view-Getline, view-Group, view-
 use Rattle.awk_program.proofs.Views.{view-Number, view-Or, view-Pattern, view-Read, view-Signed, view-Split, view-Step}
 use Rattle.awk_program.proofs.Views.{view-Substitute, view-Text}
 use Rattle.awk_store.proofs.Acting.{acted}
-use Rattle.std.proofs.Common.{refl, rules, w64}
-use Rattle.std.proofs.lemmas.Int.{to_z-of_z}
+use Rattle.std.proofs.Common.{refl}
 use Rattle.std.proofs.lemmas.Result.{err_from_is_err_and}
 use Rattle.awk_forms.proofs.expressions.evaluate.Goals as goal
 
@@ -175,7 +174,7 @@ returns-in-Getline g c =
 pub returns-in-Number : goal.returns-in-Number
 returns-in-Number g c =
     record {
-      plays = λ m is. rw (c.in-Number.is, view-Number, to_z-of_z w64 c.in-Number.number (search rules))
+      plays = λ m is. rw (c.in-Number.is, view-Number, c.of.ensures)
           (done (quietly (at_once _ _ _) (λ k hid d a. refl)));
       owns = c.requires.owns;
     }

@@ -6,7 +6,7 @@ use Rattle.awk_machine.specs.Targets.{stored}
 use Rattle.awk_program.specs.Program.{joins_of}
 use Rattle.awk_program.specs.View.{view_joined}
 use Rattle.awk_store.proofs.Acting.{acted, done as there}
-use Rattle.awk_store.proofs.Spots.{stored-so}
+use Rattle.awk_forms.proofs.Stored.{stored_by}
 use Rattle.awk_store.specs.Spots as spots
 use Rattle.awk_store.specs.Spots.{meant}
 use Rattle.awk_store.specs.Wholes.{names_in}
@@ -58,13 +58,13 @@ pub returns : goal.returns
 returns g c =
     let new = v.Text (c.in-Some.longer.text ++ c.in_ok-more.more.items) in
     record {
-      val = spots.stored (s.Variable c.args.variable) new;
+      val = spots.stored c.operands.new.run.store.numbers (s.Variable c.args.variable) new;
       is = unwanted c.set_behind.result;
       does = record {
         plays = λ m is.
             rests (hands_on (λ k. refl)
             (quietly {then_ = λ k. Do (Set (meant (names_in m) (s.Variable c.args.variable)) c.args.place new) ∷ Do
-            (Give (stored (meant (names_in m) (s.Variable c.args.variable)) new)) ∷ k}
+            (Give (stored c.operands.new.run.store.numbers (meant (names_in m) (s.Variable c.args.variable)) new)) ∷ k}
             (part _ (part (tt {0}) (quietly (quietly (quietly (at_once _ _ _) (λ k hid d a. refl)) (λ k hid d a. refl))
             (λ k hid d a. refl)) (acted
             (there {on = λ (u : Unit {0}) k. At
@@ -76,7 +76,8 @@ returns g c =
             new c.set_behind.new.store c.set_behind.result c.in-Some.ensures.nf
             (rw c.as_slice.ensures.value at c.set_behind.ensures.ok) c.set_behind.ensures.err
             c.set_behind.ensures.used)))
-            (λ x k hid d a. rw (stored-so m _ hid d a (s.Variable c.args.variable) new) refl);
+            (λ x k hid d a. rw (stored_by c.operands.new.run.store.numbers m _ hid d a
+            (s.Variable c.args.variable) new) refl);
         owns = c.operands.ensures.owns;
       };
     }

@@ -40,6 +40,6 @@ returns g c =
           (λ k hid d a. binary_second c.args.form (view (names_in m) c.args.x.now) (view (names_in m) c.args.y.now)
           c.in_ok-left.left m k _)) (c.value-2.ensures.plays m is) c.in_ok-right.was)
           (c.give.ensures.task m c.value-2.new.run.store (view (names_in m) c.args.x.now)
-          (view (names_in m) c.args.y.now));
+          (view (names_in m) c.args.y.now) c.numbers.ensures);
       owns = c.give.ensures.owns;
     }

@@ -3,7 +3,7 @@ use Rattle.awk_streams.proofs.Chain.{at_once, done, lacking, part, stop}
 use Rattle.awk_machine.specs.Pieces.{Do, Give, Set}
 use Rattle.awk_machine.specs.Targets.{stored}
 use Rattle.awk_store.proofs.Acting.{acted}
-use Rattle.awk_store.proofs.Spots.{stored-so}
+use Rattle.awk_forms.proofs.Stored.{stored_by}
 use Rattle.awk_store.specs.Spots.{meant}
 use Rattle.awk_store.specs.Wholes.{names_in}
 use Rattle.std.proofs.Common.{refl, sym, ◌∙◌, ◌∷◌}
@@ -47,7 +47,7 @@ returns-in_err-set g c =
       plays = λ m is.
           (stop _ (λ k. refl) (quietly {then_ =
           λ k. Do (Set (meant (names_in m) c.in_ok-to.to) c.args.place c.in_ok-new.new) ∷ Do
-          (Give (stored (meant (names_in m) c.in_ok-to.to) c.in_ok-new.new)) ∷ k}
+          (Give (stored c.value.new.run.store.numbers (meant (names_in m) c.in_ok-to.to) c.in_ok-new.new)) ∷ k}
           (part _ (quietly (part _ (quietly (at_once _ _ _) (λ k hid d a. refl))
           (c.target_of.ensures.plays.plays m is) c.in_ok-to.was) (λ k hid d a. refl)) (c.value.ensures.plays m is)
           c.in_ok-new.was) (λ k hid d a. rw (c.in_ok-to.ensures.spot (names_in m)) refl))
@@ -61,11 +61,12 @@ returns g c =
       plays = λ m is.
           done (quietly (part _
           (quietly {then_ = λ k. Do (Set (meant (names_in m) c.in_ok-to.to) c.args.place c.in_ok-new.new) ∷ Do
-          (Give (stored (meant (names_in m) c.in_ok-to.to) c.in_ok-new.new)) ∷ k}
+          (Give (stored c.value.new.run.store.numbers (meant (names_in m) c.in_ok-to.to) c.in_ok-new.new)) ∷ k}
           (part _ (quietly (part _ (quietly (at_once _ _ _) (λ k hid d a. refl))
           (c.target_of.ensures.plays.plays m is) c.in_ok-to.was) (λ k hid d a. refl)) (c.value.ensures.plays m is)
           c.in_ok-new.was) (λ k hid d a. rw (c.in_ok-to.ensures.spot (names_in m)) refl))
           (acted (rw c.stored.ensures.same at (c.set.ensures m c.value.new.run.streams))) c.in_ok-set.was)
-          (λ k hid d a. rw (stored-so m _ hid d a c.in_ok-to.to c.in_ok-new.new ∙ sym c.in-Ok.ensures.ok) refl));
+          (λ k hid d a. rw (stored_by c.value.new.run.store.numbers m _ hid d a c.in_ok-to.to c.in_ok-new.new ∙ sym
+          (rw c.numbers.ensures at c.in-Ok.ensures.ok)) refl));
       owns = c.value.ensures.owns;
     }

@@ -4,15 +4,14 @@ use Rattle.awk_machine.specs.Pieces.{At, Do, Get, Give, Set, Value_of}
 use Rattle.awk_machine.specs.Targets.{stored}
 use Rattle.awk_program.specs.View.{view, view_target}
 use Rattle.awk_store.proofs.Acting.{acted}
-use Rattle.awk_store.proofs.Spots.{stored-so}
+use Rattle.awk_forms.proofs.Stored.{stored_by}
 use Rattle.awk_store.specs.Spots.{meant, value_of}
 use Rattle.awk_store.specs.Wholes.{names_in}
-use Rattle.std.proofs.Common.{[], ap, refl, rules, sym, w64, ◌∙◌, ◌∷◌}
-use Rattle.std.proofs.lemmas.Int.{to_z-of_z}
+use Rattle.std.proofs.Common.{[], ap, refl, sym, ◌∙◌, ◌∷◌}
 use Rattle.std.proofs.lemmas.Result.{err_from_is_err_and}
 use Rattle.awk_forms.proofs.targets.change.Goals as goal
 use Rattle.awk_program.specs.Program as p
-use Rattle.awk_text.specs.declared.value.Value.TheVariants as v
+use Rattle.awk_text.specs.Values.{of_number}
 
 pub returns-in_err-to : goal.returns-in_err-to
 returns-in_err-to g c =
@@ -62,7 +61,8 @@ returns-in_err-number g c =
           c.in_ok-operand.was) (λ k hid d a. rw (c.in_ok-to.ensures.spot (names_in m)) refl))
           (acted (c.read.ensures m c.value.new.run.streams)) c.in_ok-old.was)
           (acted (c.computed_at.ensures m (c.read.new.store, c.value.new.run.streams)
-          (view_target (names_in m) c.args.target.now) (view (names_in m) c.args.x.now) (value_of c.in_ok-to.to)))
+          (view_target (names_in m) c.args.target.now) (view (names_in m) c.args.x.now)
+          (value_of c.in_ok-to.to) c.numbers-numbers.ensures))
           c.in_err-number.was);
       owns = c.value.ensures.owns;
     })
@@ -79,7 +79,8 @@ returns-in_default g c =
           (λ k hid d a. rw (c.in_ok-to.ensures.spot (names_in m)) refl))
           (acted (c.read.ensures m c.value.new.run.streams)) c.in_ok-old.was)
           (acted (c.computed_at.ensures m (c.read.new.store, c.value.new.run.streams)
-          (view_target (names_in m) c.args.target.now) (view (names_in m) c.args.x.now) (value_of c.in_ok-to.to)))
+          (view_target (names_in m) c.args.target.now) (view (names_in m) c.args.x.now)
+          (value_of c.in_ok-to.to) c.numbers-numbers.ensures))
           c.in_ok-number.was);
       owns = c.value.ensures.owns;
     }
@@ -90,8 +91,9 @@ returns-in_err-set g c =
     rw (e.1, e.2) (record {
       plays = λ m is.
           (stop _ (λ k. refl) (turned {then_ =
-          λ k. Do (Set (meant (names_in m) c.in_ok-to.to) c.args.place (v.Num c.in_ok-number.number)) ∷ Do
-          (Give (stored (meant (names_in m) c.in_ok-to.to) (v.Num c.in_ok-number.number))) ∷ k}
+          λ k. Do (Set (meant (names_in m) c.in_ok-to.to) c.args.place (of_number c.in_ok-number.number)) ∷ Do
+          (Give (stored c.numbers-numbers.result (meant (names_in m) c.in_ok-to.to)
+          (of_number c.in_ok-number.number))) ∷ k}
           (part _ (part _ (quietly {then_ = λ k. Do (Get (meant (names_in m) c.in_ok-to.to)) ∷ At
           (Value_of (p.change c.args.place c.args.how (view_target (names_in m) c.args.target.now)
           (view (names_in m) c.args.x.now))) (c.in_ok-operand.operand ∷ value_of c.in_ok-to.to ∷ []) ∷ k}
@@ -100,10 +102,12 @@ returns-in_err-set g c =
           c.in_ok-operand.was) (λ k hid d a. rw (c.in_ok-to.ensures.spot (names_in m)) refl))
           (acted (c.read.ensures m c.value.new.run.streams)) c.in_ok-old.was)
           (acted (c.computed_at.ensures m (c.read.new.store, c.value.new.run.streams)
-          (view_target (names_in m) c.args.target.now) (view (names_in m) c.args.x.now) (value_of c.in_ok-to.to)))
-          c.in_ok-number.was) (λ k. ap (λ t. Do (Set t c.args.place (v.Num c.in_ok-number.number)) ∷ Do
-          (Give (stored t (v.Num c.in_ok-number.number))) ∷ k) (c.in_ok-to.ensures.spot (names_in m))))
-          (acted (rw (to_z-of_z w64 c.in_ok-number.number (search rules)) at
+          (view_target (names_in m) c.args.target.now) (view (names_in m) c.args.x.now)
+          (value_of c.in_ok-to.to) c.numbers-numbers.ensures))
+          c.in_ok-number.was) (λ k. ap (λ t. Do (Set t c.args.place (of_number c.in_ok-number.number)) ∷ Do
+          (Give (stored c.numbers-numbers.result t (of_number c.in_ok-number.number))) ∷ k) (c.in_ok-to.ensures.spot
+          (names_in m))))
+          (acted (rw c.of-2.ensures at
           (c.set.ensures m c.value.new.run.streams))) c.in_err-set.was);
       owns = c.value.ensures.owns;
     })
@@ -114,8 +118,9 @@ returns g c =
       plays = λ m is.
           done (quietly (part _
           (turned {then_ = λ k. Do (Set (meant (names_in m) c.in_ok-to.to) c.args.place
-          (v.Num c.in_ok-number.number)) ∷ Do
-          (Give (stored (meant (names_in m) c.in_ok-to.to) (v.Num c.in_ok-number.number))) ∷ k}
+          (of_number c.in_ok-number.number)) ∷ Do
+          (Give (stored c.numbers-numbers.result (meant (names_in m) c.in_ok-to.to)
+          (of_number c.in_ok-number.number))) ∷ k}
           (part _ (part _ (quietly {then_ = λ k. Do (Get (meant (names_in m) c.in_ok-to.to)) ∷ At
           (Value_of (p.change c.args.place c.args.how (view_target (names_in m) c.args.target.now)
           (view (names_in m) c.args.x.now))) (c.in_ok-operand.operand ∷ value_of c.in_ok-to.to ∷ []) ∷ k}
@@ -124,12 +129,15 @@ returns g c =
           c.in_ok-operand.was) (λ k hid d a. rw (c.in_ok-to.ensures.spot (names_in m)) refl))
           (acted (c.read.ensures m c.value.new.run.streams)) c.in_ok-old.was)
           (acted (c.computed_at.ensures m (c.read.new.store, c.value.new.run.streams)
-          (view_target (names_in m) c.args.target.now) (view (names_in m) c.args.x.now) (value_of c.in_ok-to.to)))
-          c.in_ok-number.was) (λ k. ap (λ t. Do (Set t c.args.place (v.Num c.in_ok-number.number)) ∷ Do
-          (Give (stored t (v.Num c.in_ok-number.number))) ∷ k) (c.in_ok-to.ensures.spot (names_in m))))
-          (acted (rw (to_z-of_z w64 c.in_ok-number.number (search rules)) at
+          (view_target (names_in m) c.args.target.now) (view (names_in m) c.args.x.now)
+          (value_of c.in_ok-to.to) c.numbers-numbers.ensures))
+          c.in_ok-number.was) (λ k. ap (λ t. Do (Set t c.args.place (of_number c.in_ok-number.number)) ∷ Do
+          (Give (stored c.numbers-numbers.result t (of_number c.in_ok-number.number))) ∷ k) (c.in_ok-to.ensures.spot
+          (names_in m))))
+          (acted (rw c.of-2.ensures at
           (c.set.ensures m c.value.new.run.streams))) c.in_ok-set.was)
-          (λ k hid d a. rw (stored-so m _ hid d a c.in_ok-to.to (v.Num c.in_ok-number.number)
-          ∙ sym (rw (to_z-of_z w64 c.in_ok-number.number (search rules)) at c.in-Ok.ensures.ok)) refl));
+          (λ k hid d a. rw (stored_by c.numbers-numbers.result m _ hid d a c.in_ok-to.to
+          (of_number c.in_ok-number.number)
+          ∙ sym (rw c.of.ensures at c.in-Ok.ensures.ok)) refl));
       owns = c.value.ensures.owns;
     }

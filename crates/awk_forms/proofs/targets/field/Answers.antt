@@ -28,7 +28,7 @@ returns-in_err-field_number g c =
         plays = λ m is.
             (stop _ (λ k. refl) (part _ (quietly (at_once _ _ _) (λ k hid d a. refl)) (c.value.ensures.plays m is)
             c.in_ok-operand.was) (acted (c.field_number.ensures m (c.value.new.run.store, c.value.new.run.streams)
-            (view (names_in m) c.args.x.now))) c.in_err-field_number.was);
+            (view (names_in m) c.args.x.now) c.numbers.ensures)) c.in_err-field_number.was);
         owns = c.value.ensures.owns;
       };
       spot = tt;
@@ -40,7 +40,7 @@ returns-clause-plays g c =
       plays = λ m is.
           done (part _ (part _ (quietly (at_once _ _ _) (λ k hid d a. refl)) (c.value.ensures.plays m is)
           c.in_ok-operand.was) (acted (c.field_number.ensures m (c.value.new.run.store, c.value.new.run.streams)
-          (view (names_in m) c.args.x.now))) c.in_ok-field_number.was);
+          (view (names_in m) c.args.x.now) c.numbers.ensures)) c.in_ok-field_number.was);
       owns = c.value.ensures.owns;
     }
 

@@ -6,12 +6,11 @@ use Rattle.awk_program.specs.View.{view_target}
 use Rattle.awk_store.proofs.Acting.{acted}
 use Rattle.awk_store.specs.Spots.{meant, value_of}
 use Rattle.awk_store.specs.Wholes.{names_in}
-use Rattle.std.proofs.Common.{[], ap, refl, rules, w64, ◌∷◌}
-use Rattle.std.proofs.lemmas.Int.{to_z-of_z}
+use Rattle.std.proofs.Common.{[], ap, refl, ◌∷◌}
 use Rattle.std.proofs.lemmas.Result.{err_from_is_err_and}
 use Rattle.awk_forms.proofs.targets.general_step.Goals as goal
 use Rattle.awk_program.specs.Program as p
-use Rattle.awk_text.specs.declared.value.Value.TheVariants as v
+use Rattle.awk_text.specs.Values.{of_number}
 
 pub returns-in_err-to : goal.returns-in_err-to
 returns-in_err-to g c =
@@ -48,7 +47,7 @@ returns-in_err-before g c =
           (c.target_of.ensures.plays.plays m is) c.in_ok-to.was) (λ k hid d a. rw (c.in_ok-to.ensures.spot (names_in m))
           refl)) (acted (c.read.ensures m c.target_of.new.run.streams)) c.in_ok-old.was)
           (acted (c.stepped_at.ensures m (c.read.new.store, c.target_of.new.run.streams) which
-          (view_target (names_in m) c.args.target.now) (value_of c.in_ok-to.to))) c.in_err-before.was;
+          (view_target (names_in m) c.args.target.now) (value_of c.in_ok-to.to) c.numbers.ensures)) c.in_err-before.was;
       owns =
           c.target_of.ensures.plays.owns;
     })
@@ -59,7 +58,8 @@ returns-in_err-set g c =
     rw (e.1, e.2) (λ which. record {
       plays =
           λ m is. stop _ (λ k. refl)
-          (turned {then_ = λ k. Do (Set (meant (names_in m) c.in_ok-to.to) c.args.place (v.Num c.in_ok-before.behind)) ∷
+          (turned {then_ = λ k. Do (Set (meant (names_in m) c.in_ok-to.to) c.args.place
+          (of_number c.in_ok-before.behind)) ∷
           Do (Give (either which c.in_ok-before.before c.in_ok-before.behind)) ∷ k}
           (part _ (part _ (quietly {then_ = λ k. Do (Get (meant (names_in m) c.in_ok-to.to)) ∷ At
           (Value_of (p.step c.args.place c.args.how which (view_target (names_in m) c.args.target.now)))
@@ -67,10 +67,11 @@ returns-in_err-set g c =
           (c.target_of.ensures.plays.plays m is) c.in_ok-to.was) (λ k hid d a. rw (c.in_ok-to.ensures.spot (names_in m))
           refl)) (acted (c.read.ensures m c.target_of.new.run.streams)) c.in_ok-old.was)
           (acted (c.stepped_at.ensures m (c.read.new.store, c.target_of.new.run.streams) which
-          (view_target (names_in m) c.args.target.now) (value_of c.in_ok-to.to))) c.in_ok-before.was)
-          (λ k. ap (λ t. Do (Set t c.args.place (v.Num c.in_ok-before.behind)) ∷ Do
-          (Give (either which c.in_ok-before.before c.in_ok-before.behind)) ∷ k) (c.in_ok-to.ensures.spot (names_in m))))
-          (acted (rw (to_z-of_z w64 c.in_ok-before.behind (search rules)) at
+          (view_target (names_in m) c.args.target.now) (value_of c.in_ok-to.to) c.numbers.ensures)) c.in_ok-before.was)
+          (λ k. ap (λ t. Do (Set t c.args.place (of_number c.in_ok-before.behind)) ∷ Do
+          (Give (either which c.in_ok-before.before c.in_ok-before.behind)) ∷ k) (c.in_ok-to.ensures.spot
+          (names_in m))))
+          (acted (rw c.of.ensures at
           (c.set.ensures m c.target_of.new.run.streams))) c.in_err-set.was;
       owns = c.target_of.ensures.plays.owns;
     })
@@ -78,12 +79,10 @@ returns-in_err-set g c =
 pub returns : goal.returns
 returns g c =
     λ which. record {
-      plays = λ m is. rw (
-        to_z-of_z w64 c.in_ok-before.before (search rules),
-        to_z-of_z w64 c.in_ok-before.behind (search rules),
-      )
+      plays = λ m is.
           (done (quietly (part _
-          (turned {then_ = λ k. Do (Set (meant (names_in m) c.in_ok-to.to) c.args.place (v.Num c.in_ok-before.behind)) ∷
+          (turned {then_ = λ k. Do (Set (meant (names_in m) c.in_ok-to.to) c.args.place
+          (of_number c.in_ok-before.behind)) ∷
           Do (Give (either which c.in_ok-before.before c.in_ok-before.behind)) ∷ k}
           (part _ (part _ (quietly {then_ = λ k. Do (Get (meant (names_in m) c.in_ok-to.to)) ∷ At
           (Value_of (p.step c.args.place c.args.how which (view_target (names_in m) c.args.target.now)))
@@ -91,10 +90,11 @@ returns g c =
           (c.target_of.ensures.plays.plays m is) c.in_ok-to.was) (λ k hid d a. rw (c.in_ok-to.ensures.spot (names_in m))
           refl)) (acted (c.read.ensures m c.target_of.new.run.streams)) c.in_ok-old.was)
           (acted (c.stepped_at.ensures m (c.read.new.store, c.target_of.new.run.streams) which
-          (view_target (names_in m) c.args.target.now) (value_of c.in_ok-to.to))) c.in_ok-before.was)
-          (λ k. ap (λ t. Do (Set t c.args.place (v.Num c.in_ok-before.behind)) ∷ Do
-          (Give (either which c.in_ok-before.before c.in_ok-before.behind)) ∷ k) (c.in_ok-to.ensures.spot (names_in m))))
-          (acted (rw (to_z-of_z w64 c.in_ok-before.behind (search rules)) at
+          (view_target (names_in m) c.args.target.now) (value_of c.in_ok-to.to) c.numbers.ensures)) c.in_ok-before.was)
+          (λ k. ap (λ t. Do (Set t c.args.place (of_number c.in_ok-before.behind)) ∷ Do
+          (Give (either which c.in_ok-before.before c.in_ok-before.behind)) ∷ k) (c.in_ok-to.ensures.spot
+          (names_in m))))
+          (acted (rw c.of.ensures at
           (c.set.ensures m c.target_of.new.run.streams))) c.in_ok-set.was) (λ k hid d a. refl)));
       owns =
           c.target_of.ensures.plays.owns;

@@ -1,6 +1,5 @@
 use Rattle.awk_streams.proofs.Chain.{at_once, done, part, stop, turned}
-use Rattle.std.proofs.Common.{refl, rules, w64}
-use Rattle.std.proofs.lemmas.Int.{to_z-of_z}
+use Rattle.std.proofs.Common.{refl}
 use Rattle.std.proofs.lemmas.Result.{err_from_is_err_and}
 use Rattle.awk_forms.proofs.targets.increment.Goals as goal
 
@@ -17,7 +16,7 @@ returns-in_err-before g c =
 pub returns-in-Before : goal.returns-in-Before
 returns-in-Before g c =
     record {
-      plays = λ m is. rw (to_z-of_z w64 c.in_ok-before.before (search rules))
+      plays = λ m is. rw c.of.ensures
           (done (turned (part _ (at_once _ _ _) ((c.step_target.ensures c.args.taken).plays m is) c.in_ok-before.was)
           (λ k. rw c.in-Before.is refl)));
       owns = (c.step_target.ensures c.args.taken).owns;
@@ -26,7 +25,7 @@ returns-in-Before g c =
 pub returns-in-Behind : goal.returns-in-Behind
 returns-in-Behind g c =
     record {
-      plays = λ m is. rw (to_z-of_z w64 c.in_ok-before.behind (search rules))
+      plays = λ m is. rw c.of-in-Behind.ensures
           (done (turned (part _ (at_once _ _ _) ((c.step_target.ensures c.args.taken).plays m is) c.in_ok-before.was)
           (λ k. rw c.in-Behind.is refl)));
       owns = (c.step_target.ensures c.args.taken).owns;

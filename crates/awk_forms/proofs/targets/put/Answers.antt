@@ -3,7 +3,7 @@ use Rattle.awk_streams.proofs.Chain.{at_once, part, stop}
 use Rattle.awk_machine.specs.Pieces.{Do, Give, Set, give}
 use Rattle.awk_machine.specs.Targets.{stored}
 use Rattle.awk_store.proofs.Acting.{acted, done as there, lacking as lacks_there}
-use Rattle.awk_store.proofs.Spots.{stored-so}
+use Rattle.awk_forms.proofs.Stored.{stored_by}
 use Rattle.awk_store.specs.Spots as spots
 use Rattle.awk_store.specs.Spots.{meant}
 use Rattle.awk_store.specs.Wholes.{names_in}
@@ -87,20 +87,21 @@ returns-in_err-new g c =
 pub returns : goal.returns
 returns g c =
     record {
-      val = spots.stored c.in_ok-to.to c.in_ok-new.new;
+      val = spots.stored c.value.new.run.store.numbers c.in_ok-to.to c.in_ok-new.new;
       is = unwanted c.set.result;
       does =
           record {
             plays = λ m is. rests
                 (hands_on (λ k. refl)
                 (quietly {then_ = λ k. Do (Set (meant (names_in m) c.in_ok-to.to) c.args.place c.in_ok-new.new) ∷ Do
-                (Give (stored (meant (names_in m) c.in_ok-to.to) c.in_ok-new.new)) ∷ k}
+                (Give (stored c.value.new.run.store.numbers (meant (names_in m) c.in_ok-to.to) c.in_ok-new.new)) ∷ k}
                 (part _ (quietly (part _ (quietly (at_once _ _ _) (λ k hid d a. refl))
                 (rw (c.in_ok-is_done.ensures.not_done c.if-is_done.false) at (c.target_of.ensures.plays.plays m is))
                 c.in_ok-to.was) (λ k hid d a. refl)) (c.value.ensures.plays m is) c.in_ok-new.was)
                 (λ k hid d a. rw (c.in_ok-to.ensures.spot (names_in m)) refl))
                 (acted (c.set.ensures m c.value.new.run.streams)))
-                (λ x k hid d a. rw (stored-so m _ hid d a c.in_ok-to.to c.in_ok-new.new) refl);
+                (λ x k hid d a. rw (stored_by c.value.new.run.store.numbers m _ hid d a c.in_ok-to.to c.in_ok-new.new)
+                refl);
             owns = c.value.ensures.owns;
           };
     }

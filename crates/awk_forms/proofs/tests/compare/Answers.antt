@@ -38,7 +38,7 @@ returns-in-Some g c =
           (acted (there {on = give} {x = lent_value c.in-Some.other} (c.in-Some.ensures m c.operand.new.run.streams)))
           refl) (λ k hid d a. ap
           (λ z. Goes (give z k) (seen (base m (c.operand.new.run.store, c.operand.new.run.streams) hid) d))
-          (sym (rw c.of.ensures at c.compared_lent.ensures))));
+          (sym (rw (c.of.ensures, c.numbers.ensures) at c.compared_lent.ensures))));
       owns = c.operand.ensures.owns;
     }
 
@@ -49,6 +49,6 @@ returns g c =
           (quietly (part _ (quietly (part _ (quietly (at_once _ _ _) (λ k hid d a. refl)) (c.operand.ensures.plays m is)
           c.in_ok-one.was) (λ k hid d a. refl)) (c.value.ensures.plays m is) c.in_ok-other.was)
           (λ k hid d a. ap (λ z. Goes (give z k) (seen (base m (c.value.new.run.store, c.value.new.run.streams) hid) d))
-          (sym c.compared.ensures)));
+          (sym (rw c.numbers-2.ensures at c.compared.ensures))));
       owns = c.value.ensures.owns;
     }

@@ -32,7 +32,7 @@ pub returns-in_ok-found-in_default-e : goal.returns-in_ok-found-in_default-e
 returns-in_ok-found-in_default-e g c =
     record {
       val = c.in_ok-found-in_default-e.found;
-      is = c.truth.ensures;
+      is = rw c.numbers.ensures at c.truth.ensures;
       does =
           record {
             plays = λ m is. done (part _ (at_once _ _ _) (c.value.ensures.plays m is)

@@ -21,9 +21,11 @@ pub returns : goal.returns
 returns g c =
     record {
       plays = λ m is. done
-          (quietly (part _ (quietly (at_once _ _ _) (λ k hid d a. refl)) (c.operand.ensures.plays m is) c.in_ok-found.was)
+          (quietly (part _ (quietly (at_once _ _ _) (λ k hid d a. refl))
+          (c.operand.ensures.plays m is) c.in_ok-found.was)
           (λ k hid d a. ap (λ b. Goes (give (of_truth (not b)) k)
-          (seen (base m (c.operand.new.run.store, c.operand.new.run.streams) hid) d)) (sym c.truth.ensures)));
+          (seen (base m (c.operand.new.run.store, c.operand.new.run.streams) hid) d)) (sym
+          (rw c.numbers.ensures at c.truth.ensures))));
       owns =
           c.operand.ensures.owns;
     }

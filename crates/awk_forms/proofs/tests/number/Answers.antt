@@ -5,7 +5,9 @@ use Rattle.awk_text.specs.declared.fault.Fault.{Fault}
 use Rattle.std.proofs.Common.{refl, rules, sym, w64}
 use Rattle.std.proofs.lemmas.Int.{to_z-of_z}
 use Rattle.std.proofs.lemmas.Result.{err_from_is_err_and}
-use Rattle.std.specs.Prelude.{ℤ, Result, Ok}
+use Rattle.std.specs.Prelude.{Result, Ok}
+use Rattle.awk_numbers.specs.declared.number.Number.{Number}
+use Rattle.awk_numbers.specs.declared.number.Number.TheVariants.{Whole}
 use Rattle.awk_forms.proofs.tests.number.Goals as goal
 use Rattle.awk_text.specs.declared.value.Value.TheVariants as v
 
@@ -26,7 +28,7 @@ pub returns : goal.returns
 returns g c =
     record {
       val = c.in_ok-found.found;
-      is = c.number_of.ensures;
+      is = rw c.numbers.ensures at c.number_of.ensures;
       does =
           record {
             plays = λ m is. done (part _ (at_once _ _ _) (c.value.ensures.plays m is) c.in_ok-found.was);
@@ -43,7 +45,7 @@ returns-in-Some g c =
       is = sym h.is;
       does =
           record {
-            plays = λ m is. acted (there {on = λ (x : Result ℤ Fault). give h.val} {x = Ok c.in-Some.known}
+            plays = λ m is. acted (there {on = λ (x : Result Number Fault). give h.val} {x = Ok (Whole c.in-Some.known)}
                 (h.there m c.args.run.now.streams));
             owns = c.requires.owns;
           };

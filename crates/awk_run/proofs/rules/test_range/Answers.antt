@@ -41,7 +41,7 @@ returns-in_err-end_range g c =
           (rule_of (p.range (view (names_in m) c.args.first.now) (view (names_in m) c.args.last.now))
           (map (view_statement (names_in m)) c.args.action.now)) (view (names_in m) c.args.first.now)
           (view (names_in m) c.args.last.now) c.truth_of.ensures.val refl
-          (told_truth c.truth_of.ensures.val _ _ c.in_ok-holds.was c.truth_of.ensures.is))) c.in_err-end_range.was;
+          (told_truth _ c.truth_of.ensures.val _ _ c.in_ok-holds.was c.truth_of.ensures.is))) c.in_err-end_range.was;
       owns = c.truth_of.ensures.does.owns;
     })
 
@@ -57,7 +57,7 @@ returns-then-is_on g c = record {
       (rule_of (p.range (view (names_in m) c.args.first.now) (view (names_in m) c.args.last.now))
       (map (view_statement (names_in m)) c.args.action.now)) (view (names_in m) c.args.first.now)
       (view (names_in m) c.args.last.now) c.truth_of.ensures.val refl
-      (told_truth c.truth_of.ensures.val _ _ c.in_ok-holds.was c.truth_of.ensures.is))) c.in_ok-end_range.was);
+      (told_truth _ c.truth_of.ensures.val _ _ c.in_ok-holds.was c.truth_of.ensures.is))) c.in_ok-end_range.was);
   owns = c.truth_of.ensures.does.owns;
 }
 
@@ -78,7 +78,7 @@ returns-in_err-begins g c =
           (rule_of (p.range (view (names_in m) c.args.first.now) (view (names_in m) c.args.last.now))
           (map (view_statement (names_in m)) c.args.action.now)) (view (names_in m) c.args.first.now)
           (view (names_in m) c.args.last.now) c.truth_of.ensures.val refl
-          (told_truth c.truth_of.ensures.val _ _ c.in_ok-holds.was c.truth_of.ensures.is))) c.in_err-begins.was;
+          (told_truth _ c.truth_of.ensures.val _ _ c.in_ok-holds.was c.truth_of.ensures.is))) c.in_err-begins.was;
       owns = c.truth_of.ensures.does.owns;
     })
 
@@ -94,7 +94,7 @@ returns-then-begins g c = record {
       (rule_of (p.range (view (names_in m) c.args.first.now) (view (names_in m) c.args.last.now))
       (map (view_statement (names_in m)) c.args.action.now)) (view (names_in m) c.args.first.now)
       (view (names_in m) c.args.last.now) c.truth_of.ensures.val refl
-      (told_truth c.truth_of.ensures.val _ _ c.in_ok-holds.was c.truth_of.ensures.is)))
+      (told_truth _ c.truth_of.ensures.val _ _ c.in_ok-holds.was c.truth_of.ensures.is)))
       (c.in_ok-begins.was ∙ ap (λ b. Ok b) c.if-begins.true));
   owns = c.truth_of.ensures.does.owns;
 }
@@ -111,7 +111,7 @@ returns g c = record {
       (rule_of (p.range (view (names_in m) c.args.first.now) (view (names_in m) c.args.last.now))
       (map (view_statement (names_in m)) c.args.action.now)) (view (names_in m) c.args.first.now)
       (view (names_in m) c.args.last.now) c.truth_of.ensures.val refl
-      (told_truth c.truth_of.ensures.val _ _ c.in_ok-holds.was c.truth_of.ensures.is)))
+      (told_truth _ c.truth_of.ensures.val _ _ c.in_ok-holds.was c.truth_of.ensures.is)))
       (c.in_ok-begins.was ∙ ap (λ b. Ok b) c.if-begins.false));
   owns = c.truth_of.ensures.does.owns;
 }

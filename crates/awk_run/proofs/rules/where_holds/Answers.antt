@@ -22,7 +22,7 @@ returns-then-not-holds g c = record {
       (c.truth_of.ensures.does.plays m is) c.in_ok-holds.was)
       (λ k hid d a. holds_off m c.args.n (view (names_in m) c.args.pattern.now)
       (map (view_statement (names_in m)) c.args.action.now) c.truth_of.ensures.val k _
-      (sym (told_truth c.truth_of.ensures.val _ _ c.in_ok-holds.was c.truth_of.ensures.is) ∙ c.if-not-holds.true)));
+      (sym (told_truth _ c.truth_of.ensures.val _ _ c.in_ok-holds.was c.truth_of.ensures.is) ∙ c.if-not-holds.true)));
   owns = c.truth_of.ensures.does.owns;
 }
 
@@ -33,7 +33,7 @@ returns g c = record {
       c.in_ok-holds.was)
       (λ k hid d a. holds_on m c.args.n (view (names_in m) c.args.pattern.now)
       (map (view_statement (names_in m)) c.args.action.now) c.truth_of.ensures.val k _
-      (sym (told_truth c.truth_of.ensures.val _ _ c.in_ok-holds.was c.truth_of.ensures.is) ∙ c.if-not-holds.false)))
+      (sym (told_truth _ c.truth_of.ensures.val _ _ c.in_ok-holds.was c.truth_of.ensures.is) ∙ c.if-not-holds.false)))
       (c.body.ensures.plays m is);
   owns = c.body.ensures.owns;
 }
