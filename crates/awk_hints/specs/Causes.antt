@@ -1,8 +1,10 @@
--- Which tokens cause which hints.
+-- Which tokens cause which hints, by the numbers that the script has.
 use Rattle.std.specs.Prelude.{◌≡◌, ◌⊎◌, ◌&&◌, ◌||◌, ◌-◌, ℕ, Bool, true, false, List, [], ◌∷◌, codes, length, slice_get}
 use Rattle.std.specs.Prelude.{Option, Some, None}
 use Rattle.std.specs.List.{list_any}
 use Rattle.std.specs.Str.{bytes_eq}
+use Rattle.awk_numbers.specs.declared.number.Numbers.{Numbers}
+use Rattle.awk_numbers.specs.declared.number.Numbers.TheVariants.{Whole}
 use Rattle.awk_tokens.specs.declared.kinds.TokenKind.{TokenKind}
 use Rattle.awk_tokens.specs.declared.kinds.TokenKind.TheVariants as kind
 use Rattle.awk_tokens.specs.declared.token.Token.{Token}
@@ -30,24 +32,24 @@ pub data IsNamed (t : Token) : Type 0 where
   as_function : t.kind ≡ kind.CallName → IsNamed t
   as_variable : t.kind ≡ kind.Name → IsNamed t
 
--- What a token is that a hint of each kind tells of.
-unfoldable pub Causes : Token → HintKind → Type 0
-Causes t h.Division = (t.kind ≡ kind.Sign) × (is_division t.text ≡ true)
-Causes t (h.Fraction letter) = t.kind ≡ kind.Quoted
-Causes t h.Star = t.kind ≡ kind.Quoted
-Causes t h.WideCharacter = t.kind ≡ kind.Quoted
-Causes t h.EarlyStart = (t.kind ≡ kind.Number) ⊎ (t.kind ≡ kind.Sign)
-Causes t h.LongSeparator = (t.kind ≡ kind.Name) × (bytes_eq t.text (codes "RS") ≡ true)
-Causes t h.GawkName = (t.kind ≡ kind.Name) × (is_gawk_name t.text ≡ true)
-Causes t (h.GawkEscape letter) = t.kind ≡ kind.Pattern
-Causes t h.HexNumber = t.kind ≡ kind.Number
-Causes t h.UnsetField = t.kind ≡ kind.Sign
-Causes t h.Assignment = (t.kind ≡ kind.Sign) × (bytes_eq t.text (codes "=") ≡ true)
-Causes t h.SetOnce = IsNamed t
-Causes t h.ReadOnce = IsNamed t
-Causes t h.OnlyRead = IsNamed t
-Causes t h.Uncalled = IsNamed t
-Causes t h.Unused = IsNamed t
+-- What a token is that a hint of each kind tells of. Of whole numbers alone a division drops the fraction.
+unfoldable pub Causes : Numbers → Token → HintKind → Type 0
+Causes numbers t h.Division = (numbers ≡ Whole) × (t.kind ≡ kind.Sign) × (is_division t.text ≡ true)
+Causes numbers t (h.Fraction letter) = t.kind ≡ kind.Quoted
+Causes numbers t h.Star = t.kind ≡ kind.Quoted
+Causes numbers t h.WideCharacter = t.kind ≡ kind.Quoted
+Causes numbers t h.EarlyStart = (t.kind ≡ kind.Number) ⊎ (t.kind ≡ kind.Sign)
+Causes numbers t h.LongSeparator = (t.kind ≡ kind.Name) × (bytes_eq t.text (codes "RS") ≡ true)
+Causes numbers t h.GawkName = (t.kind ≡ kind.Name) × (is_gawk_name t.text ≡ true)
+Causes numbers t (h.GawkEscape letter) = t.kind ≡ kind.Pattern
+Causes numbers t h.HexNumber = t.kind ≡ kind.Number
+Causes numbers t h.UnsetField = t.kind ≡ kind.Sign
+Causes numbers t h.Assignment = (t.kind ≡ kind.Sign) × (bytes_eq t.text (codes "=") ≡ true)
+Causes numbers t h.SetOnce = IsNamed t
+Causes numbers t h.ReadOnce = IsNamed t
+Causes numbers t h.OnlyRead = IsNamed t
+Causes numbers t h.Uncalled = IsNamed t
+Causes numbers t h.Unused = IsNamed t
 
 -- what may be told of a format
 abbrev pub is_of_format : HintKind → Bool

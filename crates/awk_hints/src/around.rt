@@ -3,6 +3,9 @@ ghost use Rattle.std.specs.Prelude.{◌≡◌, is_some};
 ghost use Rattle.std.specs.Option.{option_copied};
 ghost use Rattle.awk_hints.specs.Causes as spec;
 
+use awk_numbers::number::Number;
+use awk_numbers::numeral::number;
+use awk_text::arithmetic::clamped;
 use awk_tokens::{Token, TokenKind};
 
 /// A token, and what stands before and behind it.
@@ -73,7 +76,8 @@ pub fn is_builtin(token: Option<&Token>, word: &[u8]) -> bool {
     }
 }
 
-/// The value of a number, where it is one; at most `u64::MAX`.
+/// The value of a number, where it is one; at most `u64::MAX`. Of one with a fraction it is what stands before the
+/// point, and 1 where that is 0.
 pub fn number_of(token: Option<&Token>) -> Option<u64>
     ensures { is_some result ≡ spec.is_number (option_copied token.entry) }
 {
@@ -86,7 +90,19 @@ pub fn number_of(token: Option<&Token>) -> Option<u64>
     }
 }
 
-fn value_of(digits: &[u8]) -> u64 {
+fn value_of(text: &[u8]) -> u64 {
+    if text.iter().all(|b| b.is_ascii_digit()) {
+        return value_of_digits(text);
+    }
+    match number(text) {
+        Ok(Number::Whole(n)) => n.unsigned_abs(),
+        // none between 0 and 1 is 0
+        Ok(fraction) => clamped(fraction).unsigned_abs().max(1),
+        Err(_) => u64::MAX,
+    }
+}
+
+fn value_of_digits(digits: &[u8]) -> u64 {
     let mut value = 0u64;
     for b in digits {
         value = value

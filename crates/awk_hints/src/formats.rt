@@ -4,6 +4,7 @@ ghost use Rattle.awk_hints.specs.Causes.{is_of_format};
 
 use crate::around::{Around, ends_argument, is_builtin, is_word, number_of, sign, sign_of};
 use crate::hint::HintKind;
+use awk_numbers::number::Numbers;
 use awk_tokens::Token;
 
 /// How far a format is read.
@@ -43,29 +44,30 @@ fn read(reading: Reading, b: u8) -> Reading {
     }
 }
 
-fn flaw_of(has_star: bool, conversion: u8) -> Option<HintKind>
+fn flaw_of(numbers: Numbers, has_star: bool, conversion: u8) -> Option<HintKind>
     ensures { IfSome result (λ kind. is_of_format kind ≡ true) }
 {
     if has_star {
         return Some(HintKind::Star);
     }
-    match conversion {
-        b'e' | b'f' | b'g' | b'a' | b'E' | b'F' | b'G' | b'A' => {
+    match (numbers, conversion) {
+        (_, b'a' | b'A') => Some(HintKind::Fraction(conversion)),
+        (Numbers::Whole, b'e' | b'f' | b'g' | b'E' | b'F' | b'G') => {
             Some(HintKind::Fraction(conversion))
         }
         _ => None,
     }
 }
 
-/// The first directive that whole numbers have not.
-pub fn flaw_in(format: &[u8]) -> Option<HintKind>
+/// The first directive that these numbers have not.
+pub fn flaw_in(numbers: Numbers, format: &[u8]) -> Option<HintKind>
     ensures { IfSome result (λ kind. is_of_format kind ≡ true) }
 {
     let mut reading = Reading::Text;
     for b in format {
         reading = read(reading, *b);
         if let Reading::Conversion(has_star, conversion) = reading {
-            if let Some(kind) = flaw_of(has_star, conversion) {
+            if let Some(kind) = flaw_of(numbers, has_star, conversion) {
                 return Some(kind);
             }
         }

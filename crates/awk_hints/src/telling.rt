@@ -1,7 +1,8 @@
 // The hints of a script.
-ghost use Rattle.std.specs.Prelude.{◌≡◌, ◌++◌, [], All, codes, IfOk, IfSome, OnOk, map, true, false, Some};
+ghost use Rattle.std.specs.Prelude.{◌≡◌, ◌↔◌, ◌++◌, [], All, IsTrue, codes, IfOk, IfSome, OnOk, map, true, false, Some};
 ghost use Rattle.std.specs.Option.{option_to_list};
 ghost use Rattle.std.specs.Str.{bytes_eq};
+ghost use Rattle.awk_numbers.specs.declared.number.Numbers.TheVariants.{Whole};
 ghost use Rattle.awk_hints.specs.Causes as spec;
 ghost use Rattle.awk_hints.specs.Causes.{Causes};
 ghost use Rattle.awk_hints.specs.Hints.{AreTold, Tells, hint_of};
@@ -16,6 +17,7 @@ use crate::known::is_gawk_name;
 use crate::levels::{Level, Levels, Opening};
 use crate::names::{Flaw, flaws_of};
 use crate::numbers::{begins_hex, starts_early};
+use awk_numbers::number::Numbers;
 use awk_text::Memory;
 use awk_text::escape::unescape;
 use awk_tokens::{Token, TokenKind};
@@ -32,16 +34,32 @@ fn is_condition(inner: Option<Level>) -> bool {
     }
 }
 
+/// Whether numbers have no fractions.
+fn is_of_whole(numbers: Numbers) -> bool
+    ensures { IsTrue result ↔ (numbers ≡ Whole) }
+{
+    match numbers {
+        Numbers::Whole => true,
+        Numbers::Double => false,
+    }
+}
+
 #[tactic(auto, unfolding(crate::specs::Causes::Causes))]
-fn sign_hint(around: Around<'_>, inner: Option<Level>, excused: bool) -> Option<HintKind>
+fn sign_hint(
+    numbers: Numbers,
+    around: Around<'_>,
+    inner: Option<Level>,
+    excused: bool,
+) -> Option<HintKind>
     requires { around.token.now.kind ≡ TokenKind.Sign }
-    ensures caused { IfSome result (Causes around.entry.token.now) }
-    ensures sets { bytes_eq around.entry.token.now.text (codes "/=") ≡ true → result ≡ Some HintKind.Division }
-    ensures divides { bytes_eq around.entry.token.now.text (codes "/") ≡ true → excused ≡ false →
+    ensures caused { IfSome result (Causes numbers around.entry.token.now) }
+    ensures sets { numbers ≡ Whole → bytes_eq around.entry.token.now.text (codes "/=") ≡ true →
+        result ≡ Some HintKind.Division }
+    ensures divides { numbers ≡ Whole → bytes_eq around.entry.token.now.text (codes "/") ≡ true → excused ≡ false →
         spec.is_between_numbers around.entry.before.now around.entry.after.now ≡ false →
         result ≡ Some HintKind.Division }
 {
-    if divides(around, excused) {
+    if is_of_whole(numbers) && divides(around, excused) {
         return Some(HintKind::Division);
     }
     if around.token.text.bytes() == b"=".as_slice() && is_condition(inner) {
@@ -59,7 +77,7 @@ fn sign_hint(around: Around<'_>, inner: Option<Level>, excused: bool) -> Option<
 #[tactic(auto, unfolding(crate::specs::Causes::Causes))]
 fn number_hint(around: Around<'_>, inner: Option<Level>) -> Option<HintKind>
     requires { around.token.now.kind ≡ TokenKind.Number }
-    ensures { IfSome result (Causes around.entry.token.now) }
+    ensures { (numbers : Numbers) → IfSome result (Causes numbers around.entry.token.now) }
 {
     if begins_hex(around) {
         return Some(HintKind::HexNumber);
@@ -108,7 +126,8 @@ fn flaw_hint(flaw: Flaw) -> Option<HintKind>
 #[tactic(auto, unfolding(crate::specs::Causes::Causes))]
 fn variable_hint(alloc: Global, around: Around<'_>, flaw: Flaw) -> Result<Option<HintKind>, Memory>
     requires { around.token.now.kind ≡ TokenKind.Name }
-    ensures caused { IfOk result (λ kind. IfSome kind (Causes around.entry.token.now)) }
+    ensures caused { (numbers : Numbers) → IfOk result
+        (λ kind. IfSome kind (Causes numbers around.entry.token.now)) }
     ensures known { IfOk result
         (λ kind. spec.is_gawk_name around.entry.token.now.text ≡ true → kind ≡ Some HintKind.GawkName) }
 {
@@ -156,7 +175,11 @@ fn escape_hints(alloc: Global, pattern: &[u8]) -> Result<Vec<HintKind>, Memory>
     Ok(kinds)
 }
 
-fn format_hints(alloc: Global, around: Around<'_>) -> Result<Vec<HintKind>, Memory>
+fn format_hints(
+    alloc: Global,
+    numbers: Numbers,
+    around: Around<'_>,
+) -> Result<Vec<HintKind>, Memory>
     ensures { IfOk result (λ kinds. All (λ kind. spec.is_of_format kind ≡ true) kinds.items) }
 {
     let mut kinds = Vec::new(alloc);
@@ -164,7 +187,7 @@ fn format_hints(alloc: Global, around: Around<'_>) -> Result<Vec<HintKind>, Memo
         return Ok(kinds);
     }
     let format = around.token.text.bytes();
-    if let Some(kind) = flaw_in(format) {
+    if let Some(kind) = flaw_in(numbers, format) {
         kinds.push(kind)?;
     }
     if has_wide(format, around.after) {
@@ -176,18 +199,20 @@ fn format_hints(alloc: Global, around: Around<'_>) -> Result<Vec<HintKind>, Memo
 /// What is told of a token.
 fn kinds_of(
     alloc: Global,
+    numbers: Numbers,
     around: Around<'_>,
     inner: Option<Level>,
     excused: bool,
     flaw: Flaw,
 ) -> Result<Vec<HintKind>, Memory>
     ensures { IfOk result
-        (λ kinds. AreTold around.entry.before.now around.entry.token.now around.entry.after.now excused kinds.items) }
+        (λ kinds. AreTold numbers around.entry.before.now around.entry.token.now around.entry.after.now excused
+        kinds.items) }
 {
     match around.token.kind {
-        TokenKind::Sign => Ok(one(alloc, sign_hint(around, inner, excused))?),
+        TokenKind::Sign => Ok(one(alloc, sign_hint(numbers, around, inner, excused))?),
         TokenKind::Number => Ok(one(alloc, number_hint(around, inner))?),
-        TokenKind::Quoted => Ok(format_hints(alloc, around)?),
+        TokenKind::Quoted => Ok(format_hints(alloc, numbers, around)?),
         TokenKind::Pattern => Ok(escape_hints(alloc, around.token.text.bytes())?),
         TokenKind::Name => Ok(one(alloc, variable_hint(alloc, around, flaw)?)?),
         TokenKind::CallName => Ok(one(alloc, flaw_hint(flaw))?),
@@ -229,12 +254,13 @@ fn is_excused(names_int: bool, inner: Option<Level>) -> bool
 
 fn push_all(
     alloc: Global,
+    numbers: Numbers,
     tokens: &[Token],
     flaws: &[Flaw],
     out: &mut Vec<Hint>,
 ) -> Result<(), Memory>
     requires { out.old.items ≡ [] }
-    ensures { OnOk result (Tells tokens.now tokens.now out.new.items) }
+    ensures { OnOk result (Tells numbers tokens.now tokens.now out.new.items) }
 {
     let names_int = names_int(tokens);
     let mut levels = Levels::new(alloc);
@@ -249,19 +275,20 @@ fn push_all(
         let inner = levels.inner();
         let excused = is_excused(names_int, inner);
         let flaw = flaws.get(at).copied().unwrap_or(Flaw::None);
-        let kinds = kinds_of(alloc, around, inner, excused, flaw)?;
+        let kinds = kinds_of(alloc, numbers, around, inner, excused, flaw)?;
         push_hints(alloc, token, kinds.as_slice(), out)?;
         levels.pass(around)?;
     }
     Ok(())
 }
 
-/// The hints of the script that these tokens spell, in the order of the tokens, or `Memory` where memory is refused.
-pub fn hints(alloc: Global, tokens: &[Token]) -> Result<Vec<Hint>, Memory>
-    ensures { IfOk result (λ hints. Tells tokens.now tokens.now hints.items) }
+/// The hints of the script that these tokens spell, whose numbers these are, in the order of the tokens, or `Memory`
+/// where memory is refused.
+pub fn hints(alloc: Global, numbers: Numbers, tokens: &[Token]) -> Result<Vec<Hint>, Memory>
+    ensures { IfOk result (λ hints. Tells numbers tokens.now tokens.now hints.items) }
 {
     let flaws = flaws_of(alloc, tokens)?;
     let mut out = Vec::new(alloc);
-    push_all(alloc, tokens, flaws.as_slice(), &mut out)?;
+    push_all(alloc, numbers, tokens, flaws.as_slice(), &mut out)?;
     Ok(out)
 }

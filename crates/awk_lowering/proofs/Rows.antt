@@ -1,5 +1,7 @@
 -- Rows: trees, and the programs that they stand for.
 use Rattle.std.proofs.Common.{◌≡◌, ℕ, pos, true, false, [], ◌∷◌, codes, refl}
+use Rattle.awk_numbers.specs.declared.number.Number.TheVariants.{Whole}
+use Rattle.awk_numbers.specs.declared.number.Numbers.TheVariants as profile
 use Rattle.awk_text.specs.declared.place.Place.{Place}
 use Rattle.awk_tree.specs.Tree as t
 use Rattle.awk_tree.specs.Tree.{Text}
@@ -25,6 +27,7 @@ name n x = record { text = x; place = at n }
 -- a function f of an array and of a value, whose body has the parameter x
 abbrev within : Scope
 within = record {
+  numbers = profile.Whole;
   parameters = codes "x" ∷ [];
   own_arrays = false ∷ [];
   variables = codes "a" ∷ codes "i" ∷ [];
@@ -37,8 +40,9 @@ within = record {
 row_signs : lowered within (t.concat (t.signed (at 1) tree_sign.Minus (t.number (at 2) (codes "12")))
     (t.more (t.sum (t.quoted (at 5) (codes " ")) (t.term arithmetic.Subtract (at 9) (t.number (at 10) (codes "24"))
     t.no_terms)) t.none))
-    ≡ p.concat (p.signed (at 1) sign.Minus (p.number (pos 12)))
-    (p.join (at 5) (p.chain (p.text (codes " ")) (p.term operator.Subtract (at 9) (p.number (pos 24)) p.no_terms))
+    ≡ p.concat (p.signed (at 1) sign.Minus (p.number (Whole (pos 12))))
+    (p.join (at 5) (p.chain (p.text (codes " ")) (p.term operator.Subtract (at 9)
+    (p.number (Whole (pos 24))) p.no_terms))
     p.no_joins)
 row_signs = refl
 

@@ -3,6 +3,12 @@ use Rattle.std.specs.Prelude.{ℕ, ◌-◌, ◌^◌, min, pos, Bool, true, false
 use Rattle.std.specs.List.{take_while}
 use Rattle.std.specs.Char.{is_ascii_digit}
 use Rattle.std.specs.Str.Parse.{digits_value}
+use Rattle.std.specs.Result.{result_unwrap_or}
+use Rattle.awk_numbers.specs.Numerals.{number}
+use Rattle.awk_numbers.specs.declared.number.Number.{Number}
+use Rattle.awk_numbers.specs.declared.number.Number.TheVariants.{Whole}
+use Rattle.awk_numbers.specs.declared.number.Numbers.{Numbers}
+use Rattle.awk_numbers.specs.declared.number.Numbers.TheVariants as profile
 use Rattle.awk_text.specs.declared.place.Place.{Place}
 use Rattle.awk_tree.specs.Tree.{Text}
 use Rattle.awk_tree.specs.declared.operators.Arithmetic as tree_arithmetic
@@ -39,17 +45,22 @@ use Rattle.awk_program.specs.declared.operators.Step.TheVariants as i
 use Rattle.awk_program.specs.Program as p
 use Rattle.awk_program.specs.Program.{Expression, Expressions, Reference}
 
--- no token is a greater number
-abbrev pub number_of : Text → ℕ
-number_of x = min (digits_value 10 (take_while is_ascii_digit x)) (2 ^ 63 - 1)
+-- no token of whole numbers is a greater one
+abbrev pub whole_of : Text → ℕ
+whole_of x = min (digits_value 10 (take_while is_ascii_digit x)) (2 ^ 63 - 1)
+
+-- what a constant stands for; each token of doubles is a numeral that has a number
+abbrev pub number_of : Numbers → Text → Number
+number_of profile.Whole x = Whole (pos (whole_of x))
+number_of profile.Double x = result_unwrap_or (number x) (Whole (pos 0))
 
 -- `$0`
 abbrev pub whole_record : Place → Reference
-whole_record q = p.field q (p.number (pos 0))
+whole_record q = p.field q (p.number (Whole (pos 0)))
 
 -- what the grammar never puts where it stands
 abbrev pub unwritten : Expression
-unwritten = p.number (pos 0)
+unwritten = p.number (Whole (pos 0))
 
 abbrev pub unwritten_target : Reference
 unwritten_target = whole_record (record { line = 0; column = 0 })
@@ -129,7 +140,7 @@ plain_builtin other = None
 -- without an argument length is of the whole record, and fflush asks for nothing that a run could see
 abbrev pub without_arguments : Place → Builtin → Expression
 without_arguments q f.Length = p.builtin q f.Length (p.more (p.read (whole_record q)) p.none)
-without_arguments q f.Fflush = p.number (pos 0)
+without_arguments q f.Fflush = p.number (Whole (pos 0))
 without_arguments q which = p.builtin q which p.none
 
 abbrev pub called : Place → Builtin → Expressions → Expression

@@ -8,7 +8,7 @@
 --   && and ||
 --   fflush()                       0                       length(a)                     the count of the array a
 --   length()                       length($0)
-use Rattle.std.specs.Prelude.{pos, Bool, true, false, if◌then◌else◌, List, [], ◌∷◌, map, get_or, codes, Option, Some}
+use Rattle.std.specs.Prelude.{Bool, true, false, if◌then◌else◌, List, [], ◌∷◌, map, get_or, codes, Option, Some}
 use Rattle.std.specs.Prelude.{None}
 use Rattle.awk_text.specs.Escapes.{unescaped}
 use Rattle.awk_text.specs.declared.place.Place.{Place}
@@ -115,7 +115,7 @@ element_by c n xs = p.element n.place (variable c n.text) xs
 
 abbrev mutual
   pub lowered : Scope → Tree → Expression
-  lowered c (t.number q x) = p.number (pos (number_of x))
+  lowered c (t.number q x) = p.number (number_of c.numbers x)
   lowered c (t.quoted q x) = p.text (unescaped x)
   lowered c (t.pattern q x) = p.pattern q x
   lowered c (t.name n) = p.read (p.variable (variable c n.text))

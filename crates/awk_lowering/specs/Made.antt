@@ -25,6 +25,7 @@ names_in n = n.variables.now
 
 abbrev pub scope_in : Lowering → Scope
 scope_in n = record {
+  numbers = n.numbers;
   parameters = n.parameters.now;
   functions = n.functions.now;
   arrays = n.arrays.now;

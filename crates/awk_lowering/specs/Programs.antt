@@ -1,6 +1,7 @@
 -- The program that a script stands for (POSIX.1-2017 XCU awk, "Overall Program Structure").
 use Rattle.std.specs.Prelude.{Bool, List, [], ◌∷◌, ◌++◌, map, position, false, None}
 use Rattle.std.specs.Str.{bytes_eq}
+use Rattle.awk_numbers.specs.declared.number.Numbers.{Numbers}
 use Rattle.awk_tree.specs.Tree as t
 use Rattle.awk_tree.specs.Tree.{Text, Entry, Condition}
 use Rattle.awk_tree.specs.Terminals.{nowhere}
@@ -14,8 +15,9 @@ use Rattle.awk_lowering.specs.LoweredStatements.{statement}
 use Rattle.awk_lowering.specs.Scopes.{Scope, arrays_by}
 
 -- an item that is no function has no parameters
-abbrev pub scope_with : Tables → List Text → List Bool → Scope
-scope_with n ps are = record {
+abbrev pub scope_with : Numbers → Tables → List Text → List Bool → Scope
+scope_with numbers n ps are = record {
+  numbers = numbers;
   parameters = ps;
   own_arrays = are;
   variables = n.variables;
@@ -24,8 +26,8 @@ scope_with n ps are = record {
   arrays = n.arrays;
 }
 
-abbrev pub outer : Tables → Scope
-outer n = scope_with n [] []
+abbrev pub outer : Numbers → Tables → Scope
+outer numbers n = scope_with numbers n [] []
 
 abbrev pub flags : Tables → Text → List Bool
 flags n f = arrays_by n.arrays (position (bytes_eq f) n.functions)
@@ -44,26 +46,30 @@ when_of c (t.range x y) = p.range (lowered c x) (lowered c y)
 abbrev pub rule_of : When → List Statement → Rule
 rule_of when action = record { when = when; action = action }
 
-abbrev pub function_of : Tables → Text → List Text → List t.Statement → Function
-function_of n f ps xs = record { name = f; parameters = flags n f; body = body (scope_with n ps (flags n f)) xs }
+abbrev pub function_of : Numbers → Tables → Text → List Text → List t.Statement → Function
+function_of numbers n f ps xs = record {
+  name = f;
+  parameters = flags n f;
+  body = body (scope_with numbers n ps (flags n f)) xs;
+}
 
-abbrev pub functions_of : Tables → Entry → List Function
-functions_of n (t.function f ps xs) = function_of n f.text (texts ps) xs ∷ []
-functions_of n x = []
+abbrev pub functions_of : Numbers → Tables → Entry → List Function
+functions_of numbers n (t.function f ps xs) = function_of numbers n f.text (texts ps) xs ∷ []
+functions_of numbers n x = []
 
-abbrev pub begins_of : Tables → Entry → List (List Statement)
-begins_of n (t.at_begin xs) = body (outer n) xs ∷ []
-begins_of n x = []
+abbrev pub begins_of : Numbers → Tables → Entry → List (List Statement)
+begins_of numbers n (t.at_begin xs) = body (outer numbers n) xs ∷ []
+begins_of numbers n x = []
 
-abbrev pub ends_of : Tables → Entry → List (List Statement)
-ends_of n (t.at_end xs) = body (outer n) xs ∷ []
-ends_of n x = []
+abbrev pub ends_of : Numbers → Tables → Entry → List (List Statement)
+ends_of numbers n (t.at_end xs) = body (outer numbers n) xs ∷ []
+ends_of numbers n x = []
 
-abbrev pub rules_of : Tables → Entry → List Rule
-rules_of n (t.always xs) = rule_of p.always (body (outer n) xs) ∷ []
-rules_of n (t.shown x) = rule_of (when_of (outer n) x) printed ∷ []
-rules_of n (t.rule x xs) = rule_of (when_of (outer n) x) (body (outer n) xs) ∷ []
-rules_of n x = []
+abbrev pub rules_of : Numbers → Tables → Entry → List Rule
+rules_of numbers n (t.always xs) = rule_of p.always (body (outer numbers n) xs) ∷ []
+rules_of numbers n (t.shown x) = rule_of (when_of (outer numbers n) x) printed ∷ []
+rules_of numbers n (t.rule x xs) = rule_of (when_of (outer numbers n) x) (body (outer numbers n) xs) ∷ []
+rules_of numbers n x = []
 
 -- of each item in turn
 abbrev pub each : {A : Type 0} → (Entry → List A) → List Entry → List A
@@ -75,26 +81,26 @@ names [] are = []
 names (x ∷ xs) [] = record { text = x; is_array = false } ∷ names xs []
 names (x ∷ xs) (a ∷ are) = record { text = x; is_array = a } ∷ names xs are
 
-abbrev pub program : Tables → List Entry → Program
-program n items = record {
+abbrev pub program : Numbers → Tables → List Entry → Program
+program numbers n items = record {
   variables = names n.variables n.script_arrays;
-  functions = each (functions_of n) items;
-  begin = each (begins_of n) items;
-  rules = each (rules_of n) items;
-  end = each (ends_of n) items;
+  functions = each (functions_of numbers n) items;
+  begin = each (begins_of numbers n) items;
+  rules = each (rules_of numbers n) items;
+  end = each (ends_of numbers n) items;
 }
 
 -- ---- one item after the other
 
-abbrev pub with_entry : Tables → Entry → Program → Program
-with_entry n e before = record {
+abbrev pub with_entry : Numbers → Tables → Entry → Program → Program
+with_entry numbers n e before = record {
   variables = before.variables;
-  functions = before.functions ++ functions_of n e;
-  begin = before.begin ++ begins_of n e;
-  rules = before.rules ++ rules_of n e;
-  end = before.end ++ ends_of n e;
+  functions = before.functions ++ functions_of numbers n e;
+  begin = before.begin ++ begins_of numbers n e;
+  rules = before.rules ++ rules_of numbers n e;
+  end = before.end ++ ends_of numbers n e;
 }
 
-abbrev pub with_entries : Tables → List Entry → Program → Program
-with_entries n [] before = before
-with_entries n (e ∷ es) before = with_entries n es (with_entry n e before)
+abbrev pub with_entries : Numbers → Tables → List Entry → Program → Program
+with_entries numbers n [] before = before
+with_entries numbers n (e ∷ es) before = with_entries numbers n es (with_entry numbers n e before)

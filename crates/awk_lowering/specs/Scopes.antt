@@ -1,12 +1,16 @@
 -- What the names of a script stand for in one of its items (POSIX.1-2017 XCU awk, "User-Defined Functions": a
--- parameter is a name of its own function alone, and every other name one of the whole script).
+-- parameter is a name of its own function alone, and every other name one of the whole script), and by which profile
+-- its constants are read.
 use Rattle.std.specs.Prelude.{ℕ, Bool, false, List, [], get_or, position, Option, Some, None}
 use Rattle.std.specs.Str.{bytes_eq}
+use Rattle.awk_numbers.specs.declared.number.Numbers.{Numbers}
 use Rattle.awk_tree.specs.Tree.{Text}
 use Rattle.awk_program.specs.Program as p
 use Rattle.awk_program.specs.Program.{Variable}
 
 pub record Scope : Type 0 where
+  -- which numbers the script has
+  pub numbers : Numbers
   -- the parameters of the function that the item is, and none in any other
   pub parameters : List Text
   -- of each of them whether it is an array

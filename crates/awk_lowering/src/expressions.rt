@@ -47,7 +47,7 @@ pub fn expression(context: &Lowering<'_>, e: &awk_tree::Expr, level: u32) -> Res
     }
     let below = level - 1;
     match e {
-        awk_tree::Expr::Number(_, text) => Ok(number(text)),
+        awk_tree::Expr::Number(_, text) => Ok(number(context.numbers, text)),
         awk_tree::Expr::Quoted(_, text) => quoted(context.alloc, text),
         awk_tree::Expr::Pattern(place, text) => pattern(context.alloc, *place, text),
         awk_tree::Expr::Name(n) => read_of(variable_of(variable(context, n.text.bytes()))),

@@ -16,6 +16,7 @@ use crate::kept::{finished, only, push};
 use crate::names::Lowering;
 use crate::rules::{function_of, holds, range, rule_of};
 use crate::statements::statements;
+use awk_numbers::number::Numbers;
 use awk_program::{Function, GlobalName, Program, Rule, Statement, When};
 use awk_resolve::{OwnNames, Tables};
 use awk_text::Memory;
@@ -31,15 +32,18 @@ const DEEPEST: u32 = u32::MAX;
 /// What an item is read in that has these parameters.
 fn within<'a>(
     alloc: Global,
+    numbers: Numbers,
     tables: &'a Tables,
     parameters: &'a OwnNames<'a>,
     own_arrays: &'a [bool],
 ) -> Lowering<'a>
     ensures names { names_in result ≡ tables.now.variables }
-    ensures scope { scope_in result ≡ spec.scope_with (tables_in tables.now) parameters.now own_arrays.now }
+    ensures profile { result.numbers ≡ numbers }
+    ensures scope { scope_in result ≡ spec.scope_with numbers (tables_in tables.now) parameters.now own_arrays.now }
 {
     Lowering {
         alloc,
+        numbers,
         variables: &tables.variables,
         script_arrays: tables.script_arrays.as_slice(),
         functions: &tables.functions,
@@ -120,13 +124,19 @@ fn rule(
     rule_of(when, action(context, body))
 }
 
-fn function(alloc: Global, tables: &Tables, f: &awk_tree::Function) -> Result<Function, Memory>
+fn function(
+    alloc: Global,
+    numbers: Numbers,
+    tables: &Tables,
+    f: &awk_tree::Function,
+) -> Result<Function, Memory>
     ensures { IsFunction tables.now.variables result
-        (spec.function_of (tables_in tables.now) f.now.name.text (texts f.now.params) (map view_statement f.now.body)) }
+        (spec.function_of numbers (tables_in tables.now) f.now.name.text (texts f.now.params)
+        (map view_statement f.now.body)) }
 {
     let parameters = OwnNames::of(alloc, f.params.as_slice())?;
     let flags = flags(tables, f.name.text.bytes());
-    let context = within(alloc, tables, &parameters, flags);
+    let context = within(alloc, numbers, tables, &parameters, flags);
     let body = action(&context, f.body.as_slice());
     function_of(
         f.name.text.copy(alloc),
@@ -143,10 +153,11 @@ fn add(
     out: &mut Program,
 ) -> Result<(), Memory>
     requires names { names_in context.now ≡ tables.now.variables }
-    requires scope { scope_in context.now ≡ spec.scope_with (tables_in tables.now) [] [] }
+    requires scope { scope_in context.now ≡ spec.scope_with context.now.numbers (tables_in tables.now) [] [] }
     ensures { OnOk result
         (code.view_by tables.now.variables out.new
-        ≡ spec.with_entry (tables_in tables.now) (view_item item.now) (code.view_by tables.now.variables out.old)) }
+        ≡ spec.with_entry context.now.numbers (tables_in tables.now) (view_item item.now)
+        (code.view_by tables.now.variables out.old)) }
 {
     match item {
         Item::Begin(body) => push(&mut out.begin, action(context, body.as_slice())),
@@ -154,7 +165,10 @@ fn add(
         Item::Always(body) => push(&mut out.rules, always(context, body.as_slice())),
         Item::Shown(x) => push(&mut out.rules, shown(context, x)),
         Item::Rule(x, body) => push(&mut out.rules, rule(context, x, body.as_slice())),
-        Item::Function(f) => push(&mut out.functions, function(context.alloc, tables, f)),
+        Item::Function(f) => push(
+            &mut out.functions,
+            function(context.alloc, context.numbers, tables, f),
+        ),
     }
 }
 
@@ -165,10 +179,10 @@ fn add_all(
     out: &mut Program,
 ) -> Result<(), Memory>
     requires names { names_in context.now ≡ tables.now.variables }
-    requires scope { scope_in context.now ≡ spec.scope_with (tables_in tables.now) [] [] }
+    requires scope { scope_in context.now ≡ spec.scope_with context.now.numbers (tables_in tables.now) [] [] }
     ensures { OnOk result
         (code.view_by tables.now.variables out.new
-        ≡ spec.with_entries (tables_in tables.now) (map view_item items.now)
+        ≡ spec.with_entries context.now.numbers (tables_in tables.now) (map view_item items.now)
         (code.view_by tables.now.variables out.old)) }
 {
     for item in items {
@@ -202,16 +216,21 @@ fn empty(alloc: Global, variables: Items<GlobalName>) -> Program
     }
 }
 
-/// The program of these items, or `Memory` where memory is refused.
-pub fn program(alloc: Global, tables: &Tables, items: &[Item]) -> Result<Program, Memory>
+/// The program of these items by this profile, or `Memory` where memory is refused.
+pub fn program(
+    alloc: Global,
+    numbers: Numbers,
+    tables: &Tables,
+    items: &[Item],
+) -> Result<Program, Memory>
     ensures { IfOk result
-        (λ made. code.view_program made ≡ spec.program (tables_in tables.now) (map view_item items.now)) }
+        (λ made. code.view_program made ≡ spec.program numbers (tables_in tables.now) (map view_item items.now)) }
 {
     let texts = tables.variables.texts();
     let variables = named(alloc, texts, tables.script_arrays.as_slice())?;
     let mut out = empty(alloc, variables);
     let none = OwnNames::none();
-    let context = within(alloc, tables, &none, &[]);
+    let context = within(alloc, numbers, tables, &none, &[]);
     let filled = add_all(&context, tables, items, &mut out);
     finished(out, filled)
 }

@@ -8,6 +8,7 @@ ghost use Rattle.awk_program.specs.Program as p;
 ghost use Rattle.awk_program.specs.View.{variable_of};
 
 use crate::kept::push;
+use awk_numbers::number::Numbers;
 use awk_program::Variable;
 use awk_resolve::{OwnNames, Roll};
 use awk_text::Memory;
@@ -19,6 +20,8 @@ use std::alloc::{AllocError, Global};
 #[derive(Drop)]
 pub struct Lowering<'a> {
     pub alloc: Global,
+    /// The profile that constants are read by.
+    pub numbers: Numbers,
     /// The variables of the whole script, by their slots, and of each whether it is an array.
     pub variables: &'a Roll,
     pub script_arrays: &'a [bool],

@@ -10,6 +10,7 @@ ghost use Rattle.awk_program.specs.declared.builtins.Builtin.TheVariants as f;
 use crate::kept::{both, boxed, only};
 use crate::nodes::{builtin_of, not_of, read_of};
 use crate::targets::record_of;
+use awk_numbers::number::Number;
 use awk_program::{
     Builtin, Comparison, Expr, Extent, Jump, Operator, Redirect, Sign, Step, Target,
 };
@@ -163,7 +164,7 @@ pub fn without_arguments(alloc: Global, place: Place, which: Builtin) -> Result<
 {
     match which {
         Builtin::Length => record_length(alloc, place),
-        Builtin::Fflush => Ok(Expr::Number(0)),
+        Builtin::Fflush => Ok(Expr::Number(Number::Whole(0))),
         _ => Ok(Expr::Builtin(place, which, Items::new(alloc))),
     }
 }

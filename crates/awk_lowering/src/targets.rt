@@ -1,6 +1,7 @@
 // What is read or set, and patterns, of parts that are made already. A part that was refused refuses the whole.
 
 ghost use Rattle.std.specs.Prelude.{◌≡◌, IfOk, List, pos, codes};
+ghost use Rattle.awk_numbers.specs.declared.number.Number.TheVariants.{Whole};
 ghost use Rattle.awk_lowering.specs.Forms.{unwritten_target, whole_record};
 ghost use Rattle.awk_lowering.specs.Made.{Is, AreAll, IsTarget, IsEre, IsVariable, names_in};
 ghost use Rattle.awk_program.specs.Program as p;
@@ -10,6 +11,7 @@ ghost use Rattle.awk_program.specs.View.{Names};
 use crate::kept::{both, boxed};
 use crate::names::{Lowering, global};
 use crate::nodes::read_of;
+use awk_numbers::number::Number;
 use awk_program::{Expr, Pattern, Target, Variable};
 use awk_text::Memory;
 use awk_text::octets::Octets;
@@ -65,9 +67,9 @@ pub fn computed_of(x: Result<Boxed<Expr>, Memory>) -> Result<Pattern<Expr>, Memo
 /// The number 0
 #[tactic(auto, using(awk_program::proofs::Views::views))]
 pub fn zero() -> Result<Expr, Memory>
-    ensures { (t : Names) → Is t result (p.number (pos 0)) }
+    ensures { (t : Names) → Is t result (p.number (Whole (pos 0))) }
 {
-    Ok(Expr::Number(0))
+    Ok(Expr::Number(Number::Whole(0)))
 }
 
 /// `$0`

@@ -20,7 +20,7 @@ use Rattle.awk_parse.specs.Scripts.{IsScriptOf, IsSpelled}
 
 pub made : (xs : List Item) (parts : List Section) (s : Script) → parts ≡ map part (map view_item xs)
     → Faultless parts → AreKinds parts s.kinds → s.tree.items ≡ xs
-    → view_program s.program ≡ program (tables s.kinds parts) (map view_item xs) → Sound (names_of s.program)
+    → view_program s.program ≡ program s.numbers (tables s.kinds parts) (map view_item xs) → Sound (names_of s.program)
     → s.names_environ ≡ names.names_environ parts → s.reads_main ≡ names.reads_main parts
     → IsScriptOf (map view_item xs) s
 made xs parts s of faultless kinds same is_program sound environ main =

@@ -32,8 +32,8 @@ pub record IsScriptOf (items : List Entry) (s : Script) : Type 0 where
   pub faultless : Faultless (map part items)
   pub kinds : AreKinds (map part items) s.kinds
   pub tree_is : tree s ≡ items
-  -- the program that the items stand for, by the tables of their names
-  pub program : view_program s.program ≡ program (tables s.kinds (map part items)) items
+  -- the program that the items stand for, by the tables of their names, with the constants of the script's profile
+  pub program : view_program s.program ≡ program s.numbers (tables s.kinds (map part items)) items
   -- whose variables are told apart by their names, and awk's own have their slots
   pub sound : Sound (names_of s.program)
   pub environ : s.names_environ ≡ names.names_environ (map part items)

@@ -14,6 +14,7 @@ ghost use Rattle.awk_tree.specs.View.{view_item};
 
 use crate::flaw::Flaw;
 use awk_lowering::lower;
+use awk_numbers::number::Numbers;
 use awk_program::Program;
 use awk_resolve::{Kinds, Section, misdefined, misplaced, names_environ, parts, reads_main};
 use awk_text::Memory;
@@ -25,6 +26,7 @@ use std::alloc::Global;
 /// A script in which every name has one kind, as the tree that was read and as the program that it stands for.
 #[derive(Drop)]
 pub struct Script {
+    numbers: Numbers,
     tree: awk_tree::Script,
     program: Program,
     kinds: Kinds,
@@ -51,15 +53,22 @@ fn kinds(alloc: Global, parts: &[Section]) -> Result<Kinds, Flaw>
 }
 
 impl Script {
-    /// The script of these items, which are these parts, or its flaw.
-    fn of_parts(alloc: Global, items: Items<Item>, parts: &[Section]) -> Result<Script, Flaw>
+    /// The script of these items by this profile, which are these parts, or its flaw.
+    fn of_parts(
+        alloc: Global,
+        numbers: Numbers,
+        items: Items<Item>,
+        parts: &[Section],
+    ) -> Result<Script, Flaw>
         requires { parts.now ≡ map part (map view_item items) }
+        ensures profile { IfOk result (λ script. script.numbers ≡ numbers) }
         ensures script { IfOk result (λ script. IsScriptOf (map view_item items) script) }
         ensures flawed { IfErr result (λ flaw. Flawed (map part (map view_item items)) flaw) }
     {
         let kinds = kinds(alloc, parts)?;
-        let program = lower(alloc, &kinds, parts, items.as_slice())?;
+        let program = lower(alloc, numbers, &kinds, parts, items.as_slice())?;
         Ok(Script {
+            numbers,
             tree: awk_tree::Script::new(items),
             program,
             kinds,
@@ -68,13 +77,21 @@ impl Script {
         })
     }
 
-    /// The script of these items, or its flaw.
-    pub(crate) fn of(alloc: Global, items: Items<Item>) -> Result<Script, Flaw>
+    /// The script of these items by this profile, or its flaw.
+    pub(crate) fn of(alloc: Global, numbers: Numbers, items: Items<Item>) -> Result<Script, Flaw>
+        ensures profile { IfOk result (λ script. script.numbers ≡ numbers) }
         ensures script { IfOk result (λ script. IsScriptOf (map view_item items) script) }
         ensures flawed { IfErr result (λ flaw. Flawed (map part (map view_item items)) flaw) }
     {
         let parts = parts(alloc, items.as_slice())?;
-        Script::of_parts(alloc, items, parts.as_slice())
+        Script::of_parts(alloc, numbers, items, parts.as_slice())
+    }
+
+    /// The profile that the script was read by. Takes no memory.
+    pub fn numbers(&self) -> Numbers
+        ensures { result ≡ self.now.numbers }
+    {
+        self.numbers
     }
 
     /// The items of the script, in order. Takes no memory.

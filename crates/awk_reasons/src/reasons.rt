@@ -10,18 +10,26 @@ use awk_tokens::{SyntaxError, Token, TokenKind, tokens};
 use std::alloc::Global;
 
 /// Why `awk_parse` or `awk_tokens` refuses this script so: one line without its end, or none where nothing more can be
-/// said. `refusal` is what one of them answered for the same script.
+/// said. `refusal` is what one of them answered for the same script, by the same profile.
 ///
 /// Fails where memory is refused.
-pub fn reason(alloc: Global, script: &[u8], refusal: SyntaxError) -> Result<String, Memory> {
+pub fn reason(
+    alloc: Global,
+    numbers: Numbers,
+    script: &[u8],
+    refusal: SyntaxError,
+) -> Result<String, Memory> {
     let place = refusal.place;
     match refusal.code {
         SyntaxError::BYTE => byte_reason(alloc, text_at(script, place)),
         SyntaxError::OPEN_TEXT => String::from_str(alloc, open_reason(text_at(script, place))),
-        SyntaxError::NUMBER => String::from_str(alloc, number_reason(text_at(script, place))),
+        SyntaxError::NUMBER => String::from_str(
+            alloc,
+            number_reason(numbers, text_at(script, place)),
+        ),
         SyntaxError::NESTING => String::from_str(alloc, "over 200 levels of nesting"),
         SyntaxError::TOKEN | SyntaxError::KIND | SyntaxError::FUNCTION | SyntaxError::WORD => {
-            of_tokens(alloc, script, refusal)
+            of_tokens(alloc, numbers, script, refusal)
         }
         _ => Ok(String::new(alloc)),
     }
@@ -35,7 +43,14 @@ fn open_reason(text: &[u8]) -> &'static str {
     }
 }
 
-fn number_reason(text: &[u8]) -> &'static str {
+fn number_reason(numbers: Numbers, text: &[u8]) -> &'static str {
+    match numbers {
+        Numbers::Whole => whole_reason(text),
+        Numbers::Double => "a number is at most 1.7976931348623157e308",
+    }
+}
+
+fn whole_reason(text: &[u8]) -> &'static str {
     let digits = text.iter().take_while(|b| b.is_ascii_digit()).count();
     match text.get(digits..) {
         Some([b'.' | b'e' | b'E', ..]) => "numbers are whole: no point and no exponent",
@@ -44,8 +59,13 @@ fn number_reason(text: &[u8]) -> &'static str {
 }
 
 // Of a refusal at a token of a script that has tokens.
-fn of_tokens(alloc: Global, script: &[u8], refusal: SyntaxError) -> Result<String, Memory> {
-    let Ok(read) = tokens(alloc, Numbers::Whole, script) else {
+fn of_tokens(
+    alloc: Global,
+    numbers: Numbers,
+    script: &[u8],
+    refusal: SyntaxError,
+) -> Result<String, Memory> {
+    let Ok(read) = tokens(alloc, numbers, script) else {
         return Ok(String::new(alloc));
     };
     let tokens = read.as_slice();

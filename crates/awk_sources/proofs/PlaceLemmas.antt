@@ -9,7 +9,7 @@ use Rattle.std.proofs.lemmas.List.Concat.{flat_map-append}
 use Rattle.std.proofs.lemmas.List.Elements.{All-append}
 use Rattle.std.proofs.lemmas.List.Folds.{prefix_len-append}
 use Rattle.std.proofs.lemmas.List.Sums.{sum_by-append}
-use Rattle.awk_numbers.specs.declared.number.Numbers.TheVariants.{Whole}
+use Rattle.awk_numbers.specs.declared.number.Numbers.{Numbers}
 use Rattle.awk_text.specs.declared.place.Place.{Place}
 use Rattle.awk_tokens.specs.Bytes.{Text}
 use Rattle.awk_tokens.specs.Places.{capped, place_after}
@@ -101,17 +101,21 @@ lines_more sources i s lines sum below is before sum_is =
     ∙ ap (λ w. capped (newlines w)) (sym (lead_push so_far s.text.items)) ∙ ap (λ ts. capped (newlines (lead ts)))
     (sym (texts_more sources i s below is))
 
-all_push : (texts : List Text) (text : Text) → All IsRead texts → IsRead text → All IsRead (texts ++ text ∷ [])
-all_push texts text all one = All-append IsRead texts (text ∷ []) all (λ k d below. alone k d below)
+all_push : (numbers : Numbers) (texts : List Text) (text : Text) → All (IsRead numbers) texts → IsRead numbers text
+    → All (IsRead numbers) (texts ++ text ∷ [])
+all_push numbers texts text all one = All-append (IsRead numbers) texts (text ∷ []) all (λ k d below. alone k d below)
   where
-    alone : (k : ℕ) (d : Text) → k < 1 → IsRead (get_or (text ∷ []) k d)
+    alone : (k : ℕ) (d : Text) → k < 1 → IsRead numbers (get_or (text ∷ []) k d)
     alone zero d below = one
     alone (suc k) d below = absurd (omega arith)
 
-pub all_more : (sources : List Source) (i : ℕ) (s : Source) → i < length sources → s ≡ get_or sources i s
-    → All IsRead (texts_of (take i sources)) → IsRead s.text.items → All IsRead (texts_of (take (i + 1) sources))
-all_more sources i s below is all one = subst (λ ts. All IsRead ts) (sym (texts_more sources i s below is))
-    (all_push (texts_of (take i sources)) s.text.items all one)
+pub all_more : (numbers : Numbers) (sources : List Source) (i : ℕ) (s : Source) → i < length sources → s
+    ≡ get_or sources i s
+    → All (IsRead numbers) (texts_of (take i sources)) → IsRead numbers s.text.items → All (IsRead numbers)
+    (texts_of (take (i + 1) sources))
+all_more numbers sources i s below is all one = subst (λ ts. All (IsRead numbers) ts)
+    (sym (texts_more sources i s below is))
+    (all_push numbers (texts_of (take i sources)) s.text.items all one)
 
 split_suc : (xs : List Source) (i : ℕ) (d : Source) → i < length xs → d ≡ get_or xs i d
     → xs ≡ take i xs ++ d ∷ drop (suc i) xs
@@ -119,12 +123,13 @@ split_suc [] i d h e = absurd (omega arith)
 split_suc (x ∷ xs) zero d h e = ap (λ y. y ∷ xs) (sym e)
 split_suc (x ∷ xs) (suc i) d h e = ap (λ ys. x ∷ ys) (split_suc xs i d (omega arith) e)
 
-pub refused_in : (sources : List Source) (i : ℕ) (s : Source) (lines sum code : ℕ) (own : Place) → i < length sources
+pub refused_in : (numbers : Numbers) (sources : List Source) (i : ℕ) (s : Source) (lines sum code : ℕ) (own : Place)
+    → i < length sources
     → s ≡ get_or sources i s → lines ≡ capped (newlines (lead (texts_of (take i sources))))
-    → All IsRead (texts_of (take i sources))
-    → sum ≡ capped (lines + own.line) → Refuses Whole s.text.items code own
-    → RefusesText (texts_of sources) code (at sum own.column)
-refused_in sources i s lines sum code own below is before all sum_is refused =
+    → All (IsRead numbers) (texts_of (take i sources))
+    → sum ≡ capped (lines + own.line) → Refuses numbers s.text.items code own
+    → RefusesText numbers (texts_of sources) code (at sum own.column)
+refused_in numbers sources i s lines sum code own below is before all sum_is refused =
     let so_far = take i sources in
     record {
       before = texts_of so_far;

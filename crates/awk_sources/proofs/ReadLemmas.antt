@@ -5,7 +5,6 @@ use Rattle.std.proofs.lemmas.List.{append_assoc, append-nil, map-append}
 use Rattle.std.proofs.lemmas.List.Sums.{fold-append}
 use Rattle.std.specs.List.{flat_map}
 use Rattle.awk_numbers.specs.declared.number.Numbers.{Numbers}
-use Rattle.awk_numbers.specs.declared.number.Numbers.TheVariants.{Whole}
 use Rattle.awk_tokens.specs.Bytes.{Text}
 use Rattle.awk_tokens.specs.Tokens.{IsFirst}
 use Rattle.awk_tokens.specs.Reads.{ReadsTo, begun, a_gap, a_token, Reads, ends_operand, operand_after, token_of}
@@ -98,8 +97,9 @@ moved_on numbers lead before script _ _ _ begins base parts (a_token front text 
 joined_next : (text next : Text) (texts : List Text) → joined (text ∷ next ∷ texts) ≡ text ++ 10 ∷ joined (next ∷ texts)
 joined_next text next texts = refl
 
-abbrev IsReadAs : List Text → List Word → Type 0
-IsReadAs texts words = (tokens : List Token) × Reads Whole (joined texts) tokens × (map word_of tokens ≡ words)
+abbrev IsReadAs : Numbers → List Text → List Word → Type 0
+IsReadAs numbers texts words = (tokens : List Token) × Reads numbers (joined texts) tokens ×
+    (map word_of tokens ≡ words)
 
 two_read : (numbers : Numbers) (text behind : Text) (tokens others : List Token) → Reads numbers text tokens
     → Reads numbers behind others
@@ -120,39 +120,47 @@ two_read numbers text behind tokens others one two =
           (map word_of tokens) (newline ∷ []) (map word_of others),
     )
 
-each_read : (texts : List Text) (words : List Word) → ReadsEach texts words → IsReadAs texts words
-each_read _ _ (last text tokens h) = (tokens, subst (λ w. Reads Whole w tokens) (sym (append-nil text)) h, refl)
-each_read _ _ (more text next texts tokens words h others) =
-    let inner = each_read (next ∷ texts) words others in
-    let all = two_read Whole text (joined (next ∷ texts)) tokens inner.0 h inner.1 in
+each_read : (numbers : Numbers) (texts : List Text) (words : List Word) → ReadsEach numbers texts words →
+    IsReadAs numbers texts words
+each_read numbers _ _ (last text tokens h) = (
+  tokens,
+  subst (λ w. Reads numbers w tokens)
+      (sym (append-nil text)) h,
+  refl,
+)
+each_read numbers _ _ (more text next texts tokens words h others) =
+    let inner = each_read numbers (next ∷ texts) words others in
+    let all = two_read numbers text (joined (next ∷ texts)) tokens inner.0 h inner.1 in
     (all.0, all.1, all.2 ∙ ap (λ ws. map word_of tokens ++ newline ∷ ws) inner.2)
 
 -- the first of them, and the others
-first_of : (text : Text) (texts : List Text) → All IsRead (text ∷ texts) → IsRead text
-first_of text texts h = h 0 [] (omega arith)
+first_of : (numbers : Numbers) (text : Text) (texts : List Text) → All (IsRead numbers) (text ∷ texts) →
+    IsRead numbers text
+first_of numbers text texts h = h 0 [] (omega arith)
 
-others_of : (text : Text) (texts : List Text) → All IsRead (text ∷ texts) → All IsRead texts
-others_of text texts h = λ k d below. h (suc k) d (omega arith)
+others_of : (numbers : Numbers) (text : Text) (texts : List Text) → All (IsRead numbers) (text ∷ texts) →
+    All (IsRead numbers) texts
+others_of numbers text texts h = λ k d below. h (suc k) d (omega arith)
 
-all_each : (text : Text) (texts : List Text) → All IsRead (text ∷ texts) → (words : List Word)
-    × ReadsEach (text ∷ texts) words
-all_each text [] h = let one = first_of text [] h in (map word_of one.0, last text one.0 one.1)
-all_each text (next ∷ texts) h =
-    let one = first_of text (next ∷ texts) h in
-    let rest = all_each next texts (others_of text (next ∷ texts) h) in
+all_each : (numbers : Numbers) (text : Text) (texts : List Text) → All (IsRead numbers) (text ∷ texts)
+    → (words : List Word) × ReadsEach numbers (text ∷ texts) words
+all_each numbers text [] h = let one = first_of numbers text [] h in (map word_of one.0, last text one.0 one.1)
+all_each numbers text (next ∷ texts) h =
+    let one = first_of numbers text (next ∷ texts) h in
+    let rest = all_each numbers next texts (others_of numbers text (next ∷ texts) h) in
     (map word_of one.0 ++ newline ∷ rest.0, more text next texts one.0 rest.0 one.1 rest.1)
 
-pub read_by_text : (texts : List Text) (whole : Text) → 1 < length texts → All IsRead texts → whole ≡ joined texts
-    → IsReadByText texts whole
-read_by_text [] whole several h is = absurd (omega arith)
-read_by_text (text ∷ texts) whole several h is =
-    let each = all_each text texts h in
-    let all = each_read (text ∷ texts) each.0 each.1 in
+pub read_by_text : (numbers : Numbers) (texts : List Text) (whole : Text) → 1 < length texts
+    → All (IsRead numbers) texts → whole ≡ joined texts → IsReadByText numbers texts whole
+read_by_text numbers [] whole several h is = absurd (omega arith)
+read_by_text numbers (text ∷ texts) whole several h is =
+    let each = all_each numbers text texts h in
+    let all = each_read numbers (text ∷ texts) each.0 each.1 in
     record {
       words = each.0;
       each = each.1;
       tokens = all.0;
-      reads = subst (λ w. Reads Whole w all.0) (sym is) all.1;
+      reads = subst (λ w. Reads numbers w all.0) (sym is) all.1;
       same =
           all.2;
     }

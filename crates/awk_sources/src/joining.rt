@@ -26,14 +26,14 @@ fn with_lines(lines: u32, text: &[u8]) -> u32
 }
 
 /// Reads each text by itself. Where one is refused, so is the whole, at the place where that one stands in it.
-fn read_each(alloc: Global, sources: &[Source]) -> Result<(), SyntaxError>
-    ensures read { OnOk result (All IsRead (spec.texts_of sources.now)) }
-    ensures refused { IfErr result (λ e. e.code ≢ 9 → RefusesText (spec.texts_of sources.now) e.code e.place) }
+fn read_each(alloc: Global, numbers: Numbers, sources: &[Source]) -> Result<(), SyntaxError>
+    ensures read { OnOk result (All (IsRead numbers) (spec.texts_of sources.now)) }
+    ensures refused { IfErr result (λ e. e.code ≢ 9 → RefusesText numbers (spec.texts_of sources.now) e.code e.place) }
 {
     let mut lines = 0u32;
     for source in sources {
         let text = source.text.as_slice();
-        if let Err(SyntaxError { code, place }) = tokens(alloc, Numbers::Whole, text) {
+        if let Err(SyntaxError { code, place }) = tokens(alloc, numbers, text) {
             let Place { line, column } = place;
             let line = lines.saturating_add(line);
             return Err(SyntaxError {
@@ -63,15 +63,15 @@ fn copied(alloc: Global, sources: &[Source]) -> Result<Vec<u8>, Memory>
 
 /// The texts as one script: in order, a newline between one and the next.
 ///
-/// Of several texts each is read by itself: where one ends within a string, a pattern or a line that goes on, or is
-/// refused by S1, S2 or S3 elsewhere, that is the refusal of the whole, at its place there; by S9 where memory is
-/// refused. One text alone is the script as it is: it is not looked at, and not copied.
-pub fn joined(alloc: Global, sources: Vec<Source>) -> Result<Vec<u8>, SyntaxError>
+/// Of several texts each is read by itself, by this profile: where one ends within a string, a pattern or a line that
+/// goes on, or is refused by S1, S2 or S3 elsewhere, that is the refusal of the whole, at its place there; by S9 where
+/// memory is refused. One text alone is the script as it is: it is not looked at, and not copied.
+pub fn joined(alloc: Global, numbers: Numbers, sources: Vec<Source>) -> Result<Vec<u8>, SyntaxError>
     ensures whole { IfOk result (λ whole. whole.items ≡ spec.joined (spec.texts_of sources.items)) }
     ensures read { IfOk result
-        (λ whole. 1 < length sources.items → IsReadByText (spec.texts_of sources.items) whole.items) }
+        (λ whole. 1 < length sources.items → IsReadByText numbers (spec.texts_of sources.items) whole.items) }
     ensures refused { IfErr result (λ e. e.code ≢ 9 →
-        (1 < length sources.items) × RefusesText (spec.texts_of sources.items) e.code e.place) }
+        (1 < length sources.items) × RefusesText numbers (spec.texts_of sources.items) e.code e.place) }
 {
     let mut sources = sources;
     if sources.len() == 1 {
@@ -79,7 +79,7 @@ pub fn joined(alloc: Global, sources: Vec<Source>) -> Result<Vec<u8>, SyntaxErro
             return Ok(text);
         }
     }
-    read_each(alloc, sources.as_slice())?;
+    read_each(alloc, numbers, sources.as_slice())?;
     match copied(alloc, sources.as_slice()) {
         Ok(whole) => Ok(whole),
         Err(_) => Err(SyntaxError {

@@ -9,8 +9,10 @@ use Rattle.awk_text.specs.declared.place.Place.{Place}
 use Rattle.awk_text.specs.declared.fault.Fault.{Fault}
 use Rattle.awk_text.specs.declared.fault.Fault.TheVariants.{NextOutside}
 use Rattle.awk_text.specs.declared.value.Value.{Value}
+use Rattle.awk_text.specs.Arithmetic.{whole_of}
 use Rattle.awk_text.specs.Values.{text_of, number_of}
 use Rattle.awk_fields.specs.Rows.{joined}
+use Rattle.awk_format.specs.Directives.{◌>>=◌}
 use Rattle.awk_lib.specs.Arrays.{without}
 use Rattle.awk_program.specs.Slots.{Text}
 use Rattle.awk_program.specs.Program as p
@@ -236,7 +238,7 @@ module _ (S : Listed) where
   exited place (Some x) vs k t h rest =
       one S (value x) (Doing (p.exit place (Some x))) _ vs k t (push_value S x (Doing (p.exit place (Some x))) [] k h h
       (λ y says. tt) rest)
-      (λ v. through S place (number_of v) (λ n k s. Goes (st.after_exit s.phase)
+      (λ v. through S place (number_of t.numbers v >>= whole_of) (λ n k s. Goes (st.after_exit s.phase)
       (record (st.unwound s) { status = Some (unsigned_abs (int_rem_euclid n (pos 256))) })) k t
       (λ n. exits t.phase))
 
@@ -260,7 +262,7 @@ module _ (S : Listed) where
       (known_of_print place xs r vs n) rest rest
   statements (p.printf place x xs r) vs k t h n rest =
       let i = back S (s.value x) (s.all xs ++ s.redirection r) h in
-      prints (λ s. formatted_by) place (x ∷ xs) r (Doing (p.printf place x xs r)) vs k t
+      prints (λ s. formatted_by s.numbers) place (x ∷ xs) r (Doing (p.printf place x xs r)) vs k t
       (front S (s.value x) (s.all xs ++ s.redirection r) h, each_of_list S xs (front S (s.all xs) (s.redirection r) i))
       (back S (s.all xs) (s.redirection r) i) h (λ y i. i)
       (known_of_printf place x xs r vs n) rest rest

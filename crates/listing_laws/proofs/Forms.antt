@@ -1,12 +1,13 @@
 -- Expressions: each form keeps what is listed, and asks for what is covered.
 use Rattle.std.proofs.Common.{◌≡◌, ◌∙◌, ℕ, Bool, true, false, List, [], ◌∷◌, ◌++◌, length, refl, sym, ap, subst, arith}
-use Rattle.std.specs.Prelude.{◌≤◌, Option, Some, None, if◌then◌else◌, slice_get, reverse, codes, ℤ, nat_lt}
+use Rattle.std.specs.Prelude.{◌≤◌, Option, Some, None, if◌then◌else◌, slice_get, reverse, codes, nat_lt}
 use Rattle.std.proofs.lemmas.List.{reverse-append, length-reverse}
 use Rattle.std.specs.Str.{bytes_eq}
+use Rattle.awk_numbers.specs.declared.number.Number.{Number}
 use Rattle.awk_text.specs.declared.place.Place.{Place}
 use Rattle.awk_text.specs.declared.value.Value.{Value}
 use Rattle.awk_text.specs.declared.value.Value.TheVariants as v
-use Rattle.awk_text.specs.Values.{text_of, number_of, truth}
+use Rattle.awk_text.specs.Values.{text_of, number_of, of_number, truth}
 use Rattle.awk_program.specs.Slots.{Text}
 use Rattle.awk_program.specs.Program as p
 use Rattle.awk_program.specs.Program.{Expression, Expressions, Ere, Terms, Joins, Pipes, Arguments}
@@ -174,7 +175,7 @@ module _ (S : Listed) where
       push_value S y (Terms_of (p.term how place y xs)) (x ∷ []) k (front S (s.value y) (s.terms xs) h) h (λ y says. tt)
       rest
   terms (p.term how place y xs) (z ∷ x ∷ vs) k t h n rest =
-      through S place (computed how x z) (λ made k t. Goes (At (Terms_of xs) (made ∷ []) ∷ k) t) k t
+      through S place (computed t.numbers how x z) (λ made k t. Goes (At (Terms_of xs) (made ∷ []) ∷ k) t) k t
       (λ made. (back S (s.value y) (s.terms xs) h, tt, rest))
 
   pub texts : (xs : Joins) (vs : List Value) (k : List Piece) (t : State) → Sub S (s.joins xs)
@@ -190,7 +191,7 @@ module _ (S : Listed) where
   pub ands : (xs : Expressions) (vs : List Value) (k : List Piece) (t : State) → Sub S (s.each xs)
       → Knows S (Ands_of xs) vs → Stack S (hands None) k → Keeps S (e.ands xs vs k t)
   ands xs [] k t h n rest = absurd n
-  ands p.none (x ∷ vs) k t h n rest = hand S None (of_truth (truth x)) k tt rest
+  ands p.none (x ∷ vs) k t h n rest = hand S None (of_truth (truth t.numbers x)) k tt rest
   ands (p.more y xs) (x ∷ vs) k t h n rest =
       either S x _ _ t (push_value S y (Ands_of xs) [] k (front S (s.value y) (s.each xs) h)
       (back S (s.value y) (s.each xs) h) (λ y says. tt) rest) (hand S None (of_truth false) k tt rest)
@@ -198,7 +199,7 @@ module _ (S : Listed) where
   pub ors : (xs : Expressions) (vs : List Value) (k : List Piece) (t : State) → Sub S (s.each xs)
       → Knows S (Ors_of xs) vs → Stack S (hands None) k → Keeps S (e.ors xs vs k t)
   ors xs [] k t h n rest = absurd n
-  ors p.none (x ∷ vs) k t h n rest = hand S None (of_truth (truth x)) k tt rest
+  ors p.none (x ∷ vs) k t h n rest = hand S None (of_truth (truth t.numbers x)) k tt rest
   ors (p.more y xs) (x ∷ vs) k t h n rest =
       either S x _ _ t (hand S None (of_truth true) k tt rest)
       (push_value S y (Ors_of xs) [] k (front S (s.value y) (s.each xs) h) (back S (s.value y) (s.each xs) h)
@@ -251,12 +252,12 @@ module _ (S : Listed) where
   changed place how r x (at ∷ []) k t h rest = push_value S x (Value_of (p.change place how r x)) (at ∷ []) k
       (back S (s.target r) (s.value x) h) h (λ y says. tt) rest
   changed place how r x (y ∷ at ∷ []) k t h rest = (tt, (h, λ y says. tt, rest))
-  changed place how r x (old ∷ y ∷ at ∷ vs) k t h rest = through S place (computed how old y)
+  changed place how r x (old ∷ y ∷ at ∷ vs) k t h rest = through S place (computed t.numbers how old y)
       (store (target r at) place) k t (λ made. (tt, (tt, rest)))
 
-  abbrev put : Place → StepValue → p.Reference → Value → ℤ → ℤ → Then
+  abbrev put : Place → StepValue → p.Reference → Value → Number → Number → Then
   put place which r at old new k t =
-      Goes (Do (m.Set (target r at) place (v.Num new)) ∷ Do (m.Give (e.either which old new)) ∷ k) t
+      Goes (Do (m.Set (target r at) place (of_number new)) ∷ Do (m.Give (e.either which old new)) ∷ k) t
 
   stepped : (place : Place) (how : Step) (which : StepValue) (r : p.Reference) (vs : List Value) (k : List Piece)
       (t : State) → Sub S (s.target r) → Stack S (hands None) k →
@@ -265,8 +266,10 @@ module _ (S : Listed) where
       (λ y says. tt) rest
   stepped place how which r (at ∷ []) k t h rest = (tt, (h, λ y says. tt, rest))
   stepped place how which r (x ∷ at ∷ vs) k t h rest =
-      through S place (number_of x) (λ old. granted place (operators.stepped how old) (put place which r at old)) k t
-      (λ old. through S place (operators.stepped how old) (put place which r at old) k t (λ new. (tt, (tt, rest))))
+      through S place (number_of t.numbers x)
+      (λ old k s. granted place (operators.stepped s.numbers how old) (put place which r at old) k s) k t
+      (λ old. through S place (operators.stepped t.numbers how old) (put place which r at old) k t
+      (λ new. (tt, (tt, rest))))
 
   -- ---- substitution and split
 
@@ -300,7 +303,7 @@ module _ (S : Listed) where
   pub values : (x : Expression) (vs : List Value) (k : List Piece) (t : State) → Sub S (s.value x)
       → Knows S (Value_of x) vs → Stack S (hands (s.constant x)) k →
       Keeps S (e.step_value x (Value_of x) vs k t)
-  values (p.number z) vs k t h n rest = hand S None (v.Num z) k tt rest
+  values (p.number z) vs k t h n rest = hand S None (of_number z) k tt rest
   values (p.text x) vs k t h n rest = hand S (Some x) (v.Text x) k refl rest
   values (p.pattern place x) vs k t h n rest = (tt, (tt, rest))
   values (p.read r) vs k t h n rest = one S (spot r) _ _ vs k t (push_target S r (Value_of (p.read r)) [] k h h

@@ -5,7 +5,6 @@ use Rattle.std.specs.List.{AllZip}
 use Rattle.toml.specs.Data.{Members, get_member}
 use Rattle.toml.specs.Parse.{parse_document}
 use Rattle.awk_lowering.specs.Programs.{program}
-use Rattle.awk_numbers.specs.declared.number.Numbers.TheVariants.{Whole}
 use Rattle.awk_parse.proofs.Laws.{scripts_have_one_tree}
 use Rattle.awk_parse.specs.Scripts.{IsScriptOf}
 use Rattle.awk_parse.specs.SpellsScripts.{SpellsScript}
@@ -21,6 +20,7 @@ use Rattle.awk_resolve.specs.Tables.{tables, variables, variable_flags, all_flag
 use Rattle.awk_resolve.specs.declared.kinds.Kinds.{Kinds}
 use Rattle.awk_resolve.specs.declared.mention.Section.{Section}
 use Rattle.awk_tokens.proofs.Once.{read_once}
+use Rattle.awk_tokens.specs.Reads.{Reads}
 use Rattle.awk_tokens.specs.Words.{is_name, reserved}
 use Rattle.awk_tokens.specs.declared.token.Token.{Token}
 use Rattle.awk_tree.specs.Tree.{Entry}
@@ -90,13 +90,15 @@ same_tables parts c d x y =
       arrays = all_flags (e i) parts;
     }
 
-pub same_script : (items : List Entry) (s r : Script) → IsScriptOf items s → IsScriptOf items r → SameScript s r
-same_script items s r x y =
+pub same_script : (items : List Entry) (s r : Script) → s.numbers ≡ r.numbers → IsScriptOf items s
+    → IsScriptOf items r → SameScript s r
+same_script items s r e x y =
     let parts = map part items in
     let same : (name : Named) (kind : Kind) → has s.kinds name kind ≡ has r.kinds name kind =
     λ name kind. same_kind parts s.kinds r.kinds x.kinds y.kinds name kind in
     let programs : view_program s.program ≡ view_program r.program =
-    x.program ∙ ap (λ t. program t items) (same_tables parts s.kinds r.kinds x.kinds y.kinds) ∙ sym y.program in
+    x.program ∙ ap (λ t. program s.numbers t items) (same_tables parts s.kinds r.kinds x.kinds y.kinds)
+    ∙ ap (λ n. program n (tables r.kinds parts) items) e ∙ sym y.program in
     let assigns : (name : List ℕ) → can_assign s.kinds name ≡ can_assign r.kinds name =
     λ name i. is_name name
     && (is_none (reserved name) && (not (same (global name) k.array i) && not (same (global name) k.function i))) in
@@ -104,7 +106,8 @@ same_script items s r x y =
     record { program = programs; assigns = assigns; environ = environ; main = x.main ∙ sym y.main }
 
 pub one_program : OneProgram
-one_program text tokens others s r reads is too again =
-    let same : others ≡ tokens = read_once Whole text tokens others reads too in
+one_program text tokens others s r e reads is too again =
+    let so : Reads s.numbers text others = subst (λ n. Reads n text others) (sym e) too in
+    let same : others ≡ tokens = read_once s.numbers text tokens others reads so in
     let items = scripts_have_one_tree tokens again.0 is.0 (subst (λ z. SpellsScript z again.0) same again.1) is.1 in
-    same_script is.0 s r is.2 (subst (λ z. IsScriptOf z r) items again.2)
+    same_script is.0 s r e is.2 (subst (λ z. IsScriptOf z r) items again.2)

@@ -162,7 +162,7 @@ module _ (S : Listed) where
   either_by false k l t h i = i
 
   pub either : (x : Value) (k l : List Piece) (t : State) → Ready S k → Ready S l → Keeps S (if_true x k l t)
-  either x k l t h i = either_by (truth x) k l t h i
+  either x k l t h i = either_by (truth t.numbers x) k l t h i
 
   pub ready_if : (b : Bool) (k l : List Piece) → Ready S k → Ready S l → Ready S (if b then k else l)
   ready_if true k l h i = h
@@ -182,4 +182,5 @@ module _ (S : Listed) where
   came place to counters (v.Input text) k t h = (tt, counted place counters _ (tt, h))
   came place to counters (v.Text text) k t h = hand None (v.Text text) k tt h
   came place to counters (v.Num n) k t h = hand None (v.Num n) k tt h
+  came place to counters (v.Real x) k t h = hand None (v.Real x) k tt h
   came place to counters v.Unset k t h = hand None v.Unset k tt h

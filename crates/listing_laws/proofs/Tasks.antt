@@ -4,12 +4,14 @@ use Rattle.std.specs.Prelude.{Option, Some, None, if◌then◌else◌, codes, po
 use Rattle.std.specs.List.{before_first, after_first}
 use Rattle.std.specs.Fmt.{decimal}
 use Rattle.std.specs.Str.{bytes_eq}
+use Rattle.awk_numbers.specs.declared.number.Number.TheVariants as number
 use Rattle.awk_text.specs.declared.place.Place.{Place}
 use Rattle.awk_text.specs.declared.fault.Fault.TheVariants as fault
 use Rattle.awk_text.specs.declared.value.Value.{Value}
 use Rattle.awk_text.specs.declared.value.Value.TheVariants as v
 use Rattle.awk_text.specs.Arithmetic as on
-use Rattle.awk_text.specs.Values.{text_of, number_of, truth}
+use Rattle.awk_text.specs.Arithmetic.{whole_of}
+use Rattle.awk_text.specs.Values.{text_of, number_of, of_number, truth}
 use Rattle.awk_fields.specs.Heads.{Head, taken, need_more, done, too_long}
 use Rattle.awk_fields.specs.Rows.{joined, known, place_of, with_count, unsplit}
 use Rattle.awk_fields.specs.Separators.{separator}
@@ -82,7 +84,7 @@ module _ (S : Listed) where
 
   sets_nf : (place : Place) (x : Value) (k : List Piece) (t : State) → Ready S k → Keeps S (to.set_nf place x k t)
   sets_nf place x k t rest =
-      through S place (number_of x >>= place_of)
+      through S place (number_of t.numbers x >>= λ y. whole_of y >>= place_of)
       (λ n k s. Seeks (q.Fields s.row) (λ a. Do (m.Rebuild place (with_count (q.values a) n)) ∷ k) s) k t
       (λ n a. (tt, rest))
 
@@ -243,8 +245,9 @@ module _ (S : Listed) where
 
   pub counts : (place : Place) (name : Text) (k : List Piece) (t : State) → Ready S k
       → Keeps S (getline.count place name k t)
-  counts place name k t rest = through S place (number_of (own_value t name) >>= λ n. on.add n (pos 1))
-      (λ n k s. Goes k (with_own name (v.Num n) s)) k t (λ n. rest)
+  counts place name k t rest =
+      through S place (number_of t.numbers (own_value t name) >>= λ n. on.add t.numbers n (number.Whole (pos 1)))
+      (λ n k s. Goes k (with_own name (of_number n) s)) k t (λ n. rest)
 
   pub closes : (place : Place) (text : Text) (so_far : Option Value) (o : Option Stream) (k : List Piece) (t : State)
       → Stack S (hands None) k → Keeps S (closing.close_by place text so_far o k t)
@@ -298,7 +301,7 @@ module _ (S : Listed) where
 
   pub operands : (k : List Piece) (t : State) → Holds S found.MainInput → Ready S k → Keeps S (main.operand k t)
   operands k t fit rest =
-      through S nowhere (number_of (own_value t (codes "ARGC"))) main.next_operand k t
+      through S nowhere (number_of t.numbers (own_value t (codes "ARGC")) >>= whole_of) main.next_operand k t
       (λ count. next_by (int_lt (pos t.main.position) count) t.main.named k t fit rest)
 
   assigned : (name text : Text) (k : List Piece) (r : Reply) → Ready S k → Ready S (main.assigned name text k r)
@@ -417,17 +420,19 @@ module _ (S : Listed) where
       → Sub S (s.value first) → Sub S (s.value last) → Sub S (s.rule x) →
       Sub S (s.all_done x.action) → Ready S k →
       Keeps S (if b then unary (value last) (Choosing n x)
-      (λ v k s. Goes (r.action x k) (if truth v then r.with_on n false s else s)) vs k t
-      else unary (value first) (Choosing n x) (λ v k s. if truth v then Goes (At (Choosing n x) [] ∷ k)
+      (λ v k s. Goes (r.action x k) (if truth s.numbers v then r.with_on n false s else s)) vs k t
+      else unary (value first) (Choosing n x) (λ v k s. if truth s.numbers v then Goes (At (Choosing n x) [] ∷ k)
       (r.with_on n true s) else Goes k s) vs k t)
   ranges_by true n x first last vs k t h i rule act rest =
-      one S (value last) (Choosing n x) (λ v k s. Goes (r.action x k) (if truth v then r.with_on n false s else s)) vs k
-      t (push_value S last (Choosing n x) [] k i rule (λ y says. tt) rest)
+      one S (value last) (Choosing n x)
+      (λ v k s. Goes (r.action x k) (if truth s.numbers v then r.with_on n false s else s)) vs k t
+      (push_value S last (Choosing n x) [] k i rule (λ y says. tt) rest)
       (λ v. (act, rest))
   ranges_by false n x first last vs k t h i rule act rest =
-      one S (value first) (Choosing n x) (λ v k s. if truth v then Goes (At (Choosing n x) [] ∷ k) (r.with_on n true s)
-      else Goes k s) vs k t
-      (push_value S first (Choosing n x) [] k h rule (λ y says. tt) rest) (λ v. turned_by (truth v) n x k t rule rest)
+      one S (value first) (Choosing n x)
+      (λ v k s. if truth s.numbers v then Goes (At (Choosing n x) [] ∷ k) (r.with_on n true s) else Goes k s) vs k t
+      (push_value S first (Choosing n x) [] k h rule (λ y says. tt) rest)
+      (λ v. turned_by (truth t.numbers v) n x k t rule rest)
 
   chooses_by : (w : When) (n : ℕ) (x : Rule) (vs : List Value) (k : List Piece) (t : State) → Sub S (s.when w)
       → Sub S (s.rule x) → Sub S (s.all_done x.action) → Ready S k →
@@ -456,4 +461,5 @@ module _ (S : Listed) where
   )
   reads_records g (v.Text text ∷ vs) k t w fit rest = rest
   reads_records g (v.Num n ∷ vs) k t w fit rest = rest
+  reads_records g (v.Real x ∷ vs) k t w fit rest = rest
   reads_records g (v.Unset ∷ vs) k t w fit rest = rest

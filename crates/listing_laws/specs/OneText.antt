@@ -1,6 +1,5 @@
 -- What a text says is one thing: it writes one policy, and it spells scripts of one program.
 use Rattle.std.specs.Prelude.{◌≡◌, ℕ, List}
-use Rattle.awk_numbers.specs.declared.number.Numbers.TheVariants.{Whole}
 use Rattle.awk_parse.specs.Scripts.{IsSpelled}
 use Rattle.awk_parse.specs.declared.script.Script.{Script}
 use Rattle.awk_program.specs.View.{view_program}
@@ -21,8 +20,8 @@ pub record SameScript (s r : Script) : Type 0 where
   pub environ : s.names_environ ≡ r.names_environ
   pub main : s.reads_main ≡ r.reads_main
 
--- so it is of the scripts that one text spells
+-- so it is of the scripts that one text spells by one profile
 abbrev pub OneProgram : Type 0
 OneProgram =
-    (text : List ℕ) (tokens others : List Token) (s r : Script) →
-    Reads Whole text tokens → IsSpelled tokens s → Reads Whole text others → IsSpelled others r → SameScript s r
+    (text : List ℕ) (tokens others : List Token) (s r : Script) → s.numbers ≡ r.numbers →
+    Reads s.numbers text tokens → IsSpelled tokens s → Reads r.numbers text others → IsSpelled others r → SameScript s r

@@ -9,8 +9,8 @@ pub fn one_policy()
     ensures { OnePolicy }
 {}
 
-/// The scripts that one text is read as have one program, let a host set the same variables, and say the same of
-/// ENVIRON and of the main input.
+/// The scripts that one text is read as by one profile have one program, let a host set the same variables, and say the
+/// same of ENVIRON and of the main input.
 pub fn one_program()
     ensures { OneProgram }
 {}

@@ -17,5 +17,6 @@ returns c =
     let body = in_scope (λ t s. AreStatements t c.action-body.result (spec.body s (map view_statement f.body))) _ _ _ _
     c.within-context.ensures.names scope (rw c.as_slice-2.ensures at c.action-body.ensures) in
     c.function_of.ensures c.args.tables.now.variables f.name.text (spec.flags n f.name.text)
-    (spec.body (spec.scope_with n (texts f.params) (spec.flags n f.name.text)) (map view_statement f.body))
+    (spec.body (spec.scope_with c.args.numbers n (texts f.params) (spec.flags n f.name.text))
+    (map view_statement f.body))
     c.copy.ensures (rw are at c.from_slice.ensures) body

@@ -6,6 +6,13 @@ use Rattle.awk_lowering.proofs.items.program.Goals as goal
 
 pub returns : goal.returns
 returns c =
-    finished_program (tables_in c.args.tables.now) (map view_item c.args.items.now) _ _ _ c.finished.ensures
-    (rw (c.empty-out.ensures, c.in_ok-variables.ensures, c.texts-texts.ensures, c.as_slice.ensures) at
+    finished_program c.args.numbers (tables_in c.args.tables.now)
+    (map view_item c.args.items.now) _ _ _ c.finished.ensures
+    (rw (
+      c.within-context.ensures.profile,
+      c.empty-out.ensures,
+      c.in_ok-variables.ensures,
+      c.texts-texts.ensures,
+      c.as_slice.ensures,
+    ) at
     c.add_all-filled.ensures)

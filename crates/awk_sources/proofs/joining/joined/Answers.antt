@@ -14,7 +14,9 @@ returns-in-Ok-clause-read c =
       | else-len-eq1 w ↦
           let sources = c.args.sources.items in
           let is = ap (λ v. v.items) w.sources-is in
-          read_by_text (texts_of sources) c.in-Ok.whole.items (omega (arith, length-map sources (λ x. x.text.items)))
-          (subst (λ xs. All IsRead (texts_of xs)) (c.as_slice.ensures.value ∙ is) c.in_ok-read_each.ensures.read)
+          read_by_text c.args.numbers (texts_of sources) c.in-Ok.whole.items
+          (omega (arith, length-map sources (λ x. x.text.items)))
+          (subst (λ xs. All (IsRead c.args.numbers) (texts_of xs)) (c.as_slice.ensures.value
+          ∙ is) c.in_ok-read_each.ensures.read)
           (c.in-Ok.ensures ∙ ap (λ xs. joined (texts_of xs)) (c.as_slice-2.ensures.value ∙ is))
     ]

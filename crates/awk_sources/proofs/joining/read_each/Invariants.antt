@@ -8,4 +8,4 @@ use Rattle.awk_sources.proofs.joining.read_each.Given as goal
 abbrev pub invariant-loop-source : goal.invariant-loop-source
 invariant-loop-source l =
     (l.lines ≡ capped (count_by (λ b. eqb b 10) (lead (texts_of (take l.source-index l.sources)))))
-    × All IsRead (texts_of (take l.source-index l.sources))
+    × All (IsRead l.fn.numbers) (texts_of (take l.source-index l.sources))
