@@ -20,6 +20,10 @@ _awkbox() {
         mapfile -t COMPREPLY < <(compgen -f -- "$word")
         return
         ;;
+    --numbers)
+        mapfile -t COMPREPLY < <(compgen -W 'whole double' -- "$word")
+        return
+        ;;
     --log-limit | --steps | -F | -v | -e) return ;;
     esac
     if [ "$COMP_CWORD" -eq 1 ]; then
@@ -34,12 +38,12 @@ _awkbox() {
         ;;
     esac
     case ${COMP_WORDS[1]} in
-    run) options='--policy --base --log --log-append --log-limit --audit --report -C --steps --block-buffered -F -v -f -e -E --help --' ;;
-    list) options='--files --json -f -e --help' ;;
-    check) options='--policy --base --allow-open --json -f -e --help' ;;
+    run) options='--policy --base --log --log-append --log-limit --audit --report -C --steps --block-buffered -F -v --numbers -f -e -E --help --' ;;
+    list) options='--files --json --numbers -f -e --help' ;;
+    check) options='--policy --base --allow-open --json --numbers -f -e --help' ;;
     why) options='--policy --base --given read write append run env assign --help' ;;
-    lint) options='--policy --base --strict -f -e --help' ;;
-    propose) options='--base --policy --log -f -e --help' ;;
+    lint) options='--policy --base --strict --numbers -f -e --help' ;;
+    propose) options='--base --policy --log --numbers -f -e --help' ;;
     help) options=$commands ;;
     *) options= ;;
     esac

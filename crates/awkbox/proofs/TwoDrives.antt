@@ -42,6 +42,7 @@ same_given : (s r : Script) (setup : SetupParts) (steps : ℕ) → SameScript s 
     given_of s setup steps ≡ given_of r setup steps
 same_given s r setup steps x = λ i. record {
   program = x.program i;
+  numbers = setup.numbers;
   can_assign = λ name. x.assigns name i;
   names_environ = x.environ i;
   operands = setup.operands;
@@ -51,8 +52,9 @@ same_given s r setup steps x = λ i. record {
   bound = steps;
 }
 
-same_script : OneProgram → (text : List ℕ) (s r : Script) → ReadsScript text s → ReadsScript text r → SameScript s r
-same_script one text s r x y = one text x.tokens y.tokens s r x.reads x.spelled y.reads y.spelled
+same_script : OneProgram → (text : List ℕ) (s r : Script) → s.numbers ≡ r.numbers → ReadsScript text s →
+    ReadsScript text r → SameScript s r
+same_script one text s r e x y = one text x.tokens y.tokens s r e x.reads x.spelled y.reads y.spelled
 
 module _ {V W K L : Type 0}
     (follows : V → List Call → V → Type 0) (stops : V → List Call → Ask → V → Type 0) (contents : K → Option (List ℕ))
@@ -61,6 +63,7 @@ module _ {V W K L : Type 0}
   pub two_drives : OnePolicy → OneProgram → TwoWorlds → TwoDrives follows stops contents follows' stops' contents'
   two_drives policies one law policy script setup steps v v' w w' k k' l l' o p m n end end' x y like whole too =
       let book = policies policy y.book x.book y.accepted.written x.accepted.written in
-      let same = same_script one script y.spelled x.spelled y.accepted.read x.accepted.read in
+      let same = same_script one script y.spelled x.spelled
+      (y.accepted.profile ∙ sym x.accepted.profile) y.accepted.read x.accepted.read in
       one_run x.book y.book _ _ x.drives.events y.drives.events o p m n x.drives.last y.drives.last law book
       (same_given y.spelled x.spelled setup steps same) x.drives.plays y.drives.plays like whole too

@@ -1,5 +1,6 @@
 -- What is answered of a script's text: its listing, what a policy's text says of it, and what is printed of both.
 use Rattle.std.specs.Prelude.{◌≡◌, ℕ, Bool, true, false, List, Option}
+use Rattle.awk_numbers.specs.declared.number.Numbers.{Numbers}
 use Rattle.awk_parse.specs.declared.script.Script.{Script as Parsed}
 use Rattle.awk_tree.specs.Tree.{Entry}
 use Rattle.box_listing.specs.Json.{judged_lines, site_lines}
@@ -20,30 +21,33 @@ use Rattle.awkbox.specs.declared.listing_refusal.ListingRefusal.TheVariants.{Pol
 
 -- ---- the listing and the verdict
 
--- the text spells a script of which these are the sites
-abbrev pub IsListed : List ℕ → List Site → Type 0
-IsListed text sites =
-    (script : Parsed) × (items : List Entry) × Spells text items script × IsListingOf script items sites
+-- the text spells a script, by this profile, of which these are the sites
+abbrev pub IsListed : Numbers → List ℕ → List Site → Type 0
+IsListed numbers text sites =
+    (script : Parsed) × (items : List Entry) × Spells text items script
+    × IsListingOf script items sites × (script.numbers ≡ numbers)
 
--- the texts write a policy, under its own base or the one that is given, and spell a script of which it says this
-abbrev pub IsJudged : Option (List ℕ) → (policy text : List ℕ) → Verdict → Type 0
-IsJudged base policy text verdict =
+-- the texts write a policy, under its own base or the one that is given, and spell a script, by this profile, of which
+-- it says this
+abbrev pub IsJudged : Numbers → Option (List ℕ) → (policy text : List ℕ) → Verdict → Type 0
+IsJudged numbers base policy text verdict =
     (book : Rulebook) × WrittenUnder base policy book
-    × ((script : Parsed) × (items : List Entry) × Spells text items script × IsVerdictOf script items book verdict)
+    × ((script : Parsed) × (items : List Entry) × Spells text items script
+    × IsVerdictOf script items book verdict × (script.numbers ≡ numbers))
 
 -- ---- what is refused; memory may be refused whatever the texts are
 
-abbrev pub IsListRefused : List ℕ → ListingRefusal → Type 0
-IsListRefused text (Policy e) = ⊥
-IsListRefused text (Script e) = IsScriptRefused text e
-IsListRefused text Memory = Unit {0}
+abbrev pub IsListRefused : Numbers → List ℕ → ListingRefusal → Type 0
+IsListRefused numbers text (Policy e) = ⊥
+IsListRefused numbers text (Script e) = IsScriptRefused numbers text e
+IsListRefused numbers text Memory = Unit {0}
 
 -- the policy and its base before the script
-abbrev pub IsCheckRefused : Option (List ℕ) → (policy text : List ℕ) → ListingRefusal → Type 0
-IsCheckRefused base policy text (Policy e) = IsRefusedUnder base policy e
-IsCheckRefused base policy text (Script e) =
-    (book : Rulebook) × WrittenUnder base policy book × IsScriptRefused text e
-IsCheckRefused base policy text Memory = Unit {0}
+abbrev pub IsCheckRefused : Numbers → Option (List ℕ) → (policy text : List ℕ) → ListingRefusal → Type 0
+IsCheckRefused numbers base policy text (Policy e) = IsRefusedUnder base policy e
+IsCheckRefused numbers base policy text (Script e) =
+    (book : Rulebook) × WrittenUnder base policy book × IsScriptRefused numbers text e
+IsCheckRefused numbers base policy text Memory = Unit {0}
 
 -- ---- what is printed, and the exit status
 
@@ -57,9 +61,9 @@ abbrev pub told : Format → List Site → List ℕ
 told Lines sites = lines_of sites
 told Json sites = site_lines sites
 
-abbrev pub Lists : Format → List ℕ → Answer → Type 0
-Lists format text answer =
-    (sites : List Site) × IsListed text sites × (answer.lines.items ≡ told format sites) × IsPlain answer
+abbrev pub Lists : Format → Numbers → List ℕ → Answer → Type 0
+Lists format numbers text answer =
+    (sites : List Site) × IsListed numbers text sites × (answer.lines.items ≡ told format sites) × IsPlain answer
 
 -- 0 where a policy has nothing against a script
 abbrev pub status_of : Verdict → ℕ
@@ -86,6 +90,6 @@ abbrev pub IsJudgement : Format → Rulebook → List Site → Answer → Type 0
 IsJudgement format book sites answer =
     (answer.lines.items ≡ judgement format book sites) × IsOf (verdict_on book sites) answer
 
-abbrev pub Checks : Format → Option (List ℕ) → (policy text : List ℕ) → Answer → Type 0
-Checks format base policy text answer = (book : Rulebook) × WrittenUnder base policy book
-    × ((sites : List Site) × IsListed text sites × IsJudgement format book sites answer)
+abbrev pub Checks : Format → Numbers → Option (List ℕ) → (policy text : List ℕ) → Answer → Type 0
+Checks format numbers base policy text answer = (book : Rulebook) × WrittenUnder base policy book
+    × ((sites : List Site) × IsListed numbers text sites × IsJudgement format book sites answer)

@@ -78,5 +78,5 @@ module _ {W L : Type 0} (follows : W → List Call → W → Type 0) (stops : W 
       (used : ℕ) (end : LogEnd) (world' : W) (log' : L) : Type 0 where
     pub book : Rulebook
     pub spelled : Script
-    pub accepted : Accepted policy script setup.assigns book spelled
+    pub accepted : Accepted setup.numbers policy script setup.assigns book spelled
     pub drives : Drives book (given_of spelled setup steps) world log o used end world' log'

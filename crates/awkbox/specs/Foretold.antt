@@ -2,6 +2,7 @@
 use Rattle.std.specs.Prelude.{ℕ, List, Option, All, Contains}
 use Rattle.awk_machine.specs.Pieces.{Outcome}
 use Rattle.awk_machine.specs.Plays.{Plays}
+use Rattle.awk_numbers.specs.declared.number.Numbers.{Numbers}
 use Rattle.awk_parse.specs.declared.script.Script.{Script}
 use Rattle.awk_run.specs.Givens.{given_of}
 use Rattle.awk_run.specs.SetupParts.{SetupParts}
@@ -18,7 +19,7 @@ use Rattle.awkbox.specs.Answers.{IsJudged, IsListed}
 -- each event of each run of the text that a policy could deny is covered by one of its sites
 abbrev pub TextCovered : Type 0
 TextCovered =
-    (text : List ℕ) (s : Script) (sites : List Site) → IsListed text sites → ReadsScript text s →
+    (text : List ℕ) (s : Script) (sites : List Site) → IsListed s.numbers text sites → ReadsScript text s →
     (setup : SetupParts) (steps : ℕ) (events : List Event) (o : Outcome) (used : ℕ) (last : Option Want) →
     Plays (given_of s setup steps) events o used last →
     All (IsCovered sites) events
@@ -28,7 +29,7 @@ TextCovered =
 abbrev pub TextAllowed : Type 0
 TextAllowed =
     (base : Option (List ℕ)) (policy text : List ℕ) (book : Rulebook) (s : Script) →
-    IsJudged base policy text Clean → WrittenUnder base policy book → ReadsScript text s →
+    IsJudged s.numbers base policy text Clean → WrittenUnder base policy book → ReadsScript text s →
     (setup : SetupParts) (steps : ℕ) (events : List Event) (o : Outcome) (used : ℕ) (last : Option Want) →
     Plays (given_of s setup steps) events o used last →
     AllAllowed book events
@@ -37,6 +38,7 @@ TextAllowed =
 -- that was given
 abbrev pub TextDenied : Type 0
 TextDenied =
-    (base : Option (List ℕ)) (policy text : List ℕ) (book : Rulebook) (refused : List Site) (site : Site) →
-    IsJudged base policy text (Refused refused) → WrittenUnder base policy book →
+    (numbers : Numbers) (base : Option (List ℕ)) (policy text : List ℕ) (book : Rulebook) (refused : List Site)
+    (site : Site) →
+    IsJudged numbers base policy text (Refused refused) → WrittenUnder base policy book →
     Contains refused site → IsRefusedSite book site

@@ -30,15 +30,20 @@ pub enum Refusal {
     Assign(u32),
 }
 
-/// The script that the bytes spell.
-pub(crate) fn read_script(alloc: Global, script: &[u8]) -> Result<Script, SyntaxError>
+/// The script that the bytes spell, by this profile.
+pub(crate) fn read_script(
+    alloc: Global,
+    numbers: Numbers,
+    script: &[u8],
+) -> Result<Script, SyntaxError>
+    ensures profile { IfOk result (λ s. s.numbers ≡ numbers) }
     ensures ok { IfOk result (ReadsScript script.now) }
     ensures spells { IfOk result (λ s. (items : List Entry) × Spells script.now items s) }
-    ensures refused { IfErr result (IsScriptRefused script.now) }
-    ensures told { IfErr result (spec.IsScriptRefused script.now) }
+    ensures refused { IfErr result (IsScriptRefused numbers script.now) }
+    ensures told { IfErr result (spec.IsScriptRefused numbers script.now) }
 {
-    let tokens = tokens(alloc, Numbers::Whole, script)?;
-    parse(alloc, tokens.as_slice())
+    let tokens = tokens(alloc, numbers, script)?;
+    parse(alloc, numbers, tokens.as_slice())
 }
 
 /// Whether a host may set the variable of this name.
@@ -109,8 +114,8 @@ impl Prepared {
     }
 }
 
-/// The policy and the script that a run goes by, or the first refusal: the policy's, then the script's, and then that
-/// of the first `-v` pair whose name may not be set.
+/// The policy and the script that a run goes by, which is read by the setup's numbers, or the first refusal: the
+/// policy's, then the script's, and then that of the first `-v` pair whose name may not be set.
 pub fn prepare(
     alloc: Global,
     policy: &[u8],
@@ -118,15 +123,16 @@ pub fn prepare(
     setup: &Setup,
 ) -> Result<Prepared, Refusal>
     ensures ok { IfOk result
-        (λ prepared. Accepted policy.now script.now setup.now.assigns prepared.policy prepared.script) }
+        (λ prepared. Accepted setup.now.numbers policy.now script.now setup.now.assigns prepared.policy
+        prepared.script) }
     ensures script { IfOk result (λ prepared. IsScript prepared.script) }
-    ensures refused { IfErr result (IsRefused policy.now script.now setup.now.assigns) }
+    ensures refused { IfErr result (IsRefused setup.now.numbers policy.now script.now setup.now.assigns) }
 {
     let policy = match Policy::read(alloc, policy) {
         Ok(policy) => policy,
         Err(error) => return Err(Refusal::Policy(error)),
     };
-    let script = match read_script(alloc, script) {
+    let script = match read_script(alloc, setup.numbers(), script) {
         Ok(script) => script,
         Err(error) => return Err(Refusal::Script(error)),
     };

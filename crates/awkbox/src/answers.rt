@@ -6,6 +6,7 @@ ghost use Rattle.std.specs.Prelude.{IfErr, IfOk, option_map, ◌≡◌};
 
 use crate::listing_refusal::ListingRefusal;
 use crate::listings::{Listing, listing_of, sites_of};
+use awk_numbers::number::Numbers;
 use awk_text::Memory;
 use box_listing::{Site, Verdict, judge, judged_json, lines_of, sites_json, verdict_lines};
 use box_policy::policy::Policy;
@@ -40,12 +41,17 @@ fn told(alloc: Global, sites: &[Site], format: Format) -> Result<Vec<u8>, Memory
     }
 }
 
-/// The listing of the script that the text spells. The status is 0.
-pub fn list(alloc: Global, script: &[u8], format: Format) -> Result<Answer, ListingRefusal>
-    ensures ok { IfOk result (Lists format script.now) }
-    ensures refused { IfErr result (IsListRefused script.now) }
+/// The listing of the script that the text spells by this profile. The status is 0.
+pub fn list(
+    alloc: Global,
+    numbers: Numbers,
+    script: &[u8],
+    format: Format,
+) -> Result<Answer, ListingRefusal>
+    ensures ok { IfOk result (Lists format numbers script.now) }
+    ensures refused { IfErr result (IsListRefused numbers script.now) }
 {
-    let sites = sites_of(alloc, script)?;
+    let sites = sites_of(alloc, numbers, script)?;
     let lines = told(alloc, sites.as_slice(), format)?;
     Ok(Answer {
         lines,
@@ -113,14 +119,15 @@ fn judged(
 /// then the base, and then the script.
 pub fn check(
     alloc: Global,
+    numbers: Numbers,
     policy: &[u8],
     base: Option<&[u8]>,
     script: &[u8],
     format: Format,
 ) -> Result<Answer, ListingRefusal>
-    ensures ok { IfOk result (Checks format (option_map (λ b. b.now) base.entry) policy.now script.now) }
-    ensures refused { IfErr result (IsCheckRefused (option_map (λ b. b.now) base.entry) policy.now script.now) }
+    ensures ok { IfOk result (Checks format numbers (option_map (λ b. b.now) base.entry) policy.now script.now) }
+    ensures refused { IfErr result (IsCheckRefused numbers (option_map (λ b. b.now) base.entry) policy.now script.now) }
 {
-    let Listing { policy, sites } = listing_of(alloc, policy, base, script)?;
+    let Listing { policy, sites } = listing_of(alloc, numbers, policy, base, script)?;
     Ok(judged(alloc, &policy, sites, format)?)
 }

@@ -87,7 +87,8 @@ pub fn drive<W: World, L: Write>(
     world: W,
     log: L,
 ) -> Driven<W, L>
-    ensures refused { IfErr result.answer (λ refusal. IsRefused policy.now script.now setup.now.assigns refusal
+    ensures refused { IfErr result.answer
+        (λ refusal. IsRefused setup.now.numbers policy.now script.now setup.now.assigns refusal
         × (result.world ≡ world) × (result.log ≡ log) × (result.log_end ≡ Whole)) }
     ensures driven { IfOk result.answer (λ report. DrivesText W.follows W.stops L.contents
         policy.now script.now setup.now steps world log

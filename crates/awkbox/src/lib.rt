@@ -29,6 +29,7 @@ pub use accepting::{Prepared, Refusal, prepare};
 pub use account::Account;
 pub use answers::{Answer, Format, check, list};
 pub use awk_hash::Seed;
+pub use awk_numbers::number::Numbers;
 pub use awk_run::{Outcome, Report, Setup, SetupError};
 pub use awk_text::Memory;
 pub use awk_text::fault::Fault;

@@ -5,16 +5,17 @@ ghost use Rattle.std.specs.Prelude.{IfErr, IfOk, option_map};
 
 use crate::accepting::read_script;
 use crate::listing_refusal::ListingRefusal;
+use awk_numbers::number::Numbers;
 use box_listing::{Site, Verdict, judge, sites};
 use box_policy::policy::Policy;
 use std::alloc::Global;
 
-/// The sites of the script that the text spells, where a run of it may ask: see [`box_listing::sites`].
-pub fn sites_of(alloc: Global, script: &[u8]) -> Result<Vec<Site>, ListingRefusal>
-    ensures ok { IfOk result (λ sites. IsListed script.now sites.items) }
-    ensures refused { IfErr result (IsListRefused script.now) }
+/// The sites of the script that the text spells by this profile, where a run of it may ask: see [`box_listing::sites`].
+pub fn sites_of(alloc: Global, numbers: Numbers, script: &[u8]) -> Result<Vec<Site>, ListingRefusal>
+    ensures ok { IfOk result (λ sites. IsListed numbers script.now sites.items) }
+    ensures refused { IfErr result (IsListRefused numbers script.now) }
 {
-    let script = read_script(alloc, script)?;
+    let script = read_script(alloc, numbers, script)?;
     let sites = sites(alloc, &script);
     script.release();
     Ok(sites?)
@@ -31,17 +32,18 @@ pub(crate) struct Listing {
 /// [`verdict_of`] is.
 pub(crate) fn listing_of(
     alloc: Global,
+    numbers: Numbers,
     policy: &[u8],
     base: Option<&[u8]>,
     script: &[u8],
 ) -> Result<Listing, ListingRefusal>
     ensures policy { IfOk result
         (λ listing. WrittenUnder (option_map (λ b. b.now) base.entry) policy.now listing.policy) }
-    ensures sites { IfOk result (λ listing. IsListed script.now listing.sites.items) }
-    ensures refused { IfErr result (IsCheckRefused (option_map (λ b. b.now) base.entry) policy.now script.now) }
+    ensures sites { IfOk result (λ listing. IsListed numbers script.now listing.sites.items) }
+    ensures refused { IfErr result (IsCheckRefused numbers (option_map (λ b. b.now) base.entry) policy.now script.now) }
 {
     let policy = Policy::read_under(alloc, policy, base)?;
-    match sites_of(alloc, script) {
+    match sites_of(alloc, numbers, script) {
         Ok(sites) => Ok(Listing { policy, sites }),
         Err(refusal) => Err(refusal),
     }
@@ -52,14 +54,15 @@ pub(crate) fn listing_of(
 /// then the base, and then the script.
 pub fn verdict_of(
     alloc: Global,
+    numbers: Numbers,
     policy: &[u8],
     base: Option<&[u8]>,
     script: &[u8],
 ) -> Result<Verdict, ListingRefusal>
-    ensures ok { IfOk result (IsJudged (option_map (λ b. b.now) base.entry) policy.now script.now) }
-    ensures refused { IfErr result (IsCheckRefused (option_map (λ b. b.now) base.entry) policy.now script.now) }
+    ensures ok { IfOk result (IsJudged numbers (option_map (λ b. b.now) base.entry) policy.now script.now) }
+    ensures refused { IfErr result (IsCheckRefused numbers (option_map (λ b. b.now) base.entry) policy.now script.now) }
 {
-    let listing = listing_of(alloc, policy, base, script)?;
+    let listing = listing_of(alloc, numbers, policy, base, script)?;
     let Listing { policy, sites } = listing;
     let verdict = judge(alloc, &policy, sites)?;
     Ok(verdict)

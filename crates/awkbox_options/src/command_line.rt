@@ -1,4 +1,5 @@
 // What the words ask for.
+use awk_numbers::number::Numbers;
 use box_advice::{Kind, kind_named};
 use clap::error::ErrorKind;
 use clap::{Arg, ArgAction, ArgMatches, Command, Error};
@@ -33,6 +34,8 @@ pub struct Run<'a> {
     pub report: Option<&'a str>,
     /// The parts of the script, one at least.
     pub script: Vec<ScriptPart<'a>>,
+    /// Which numbers the script has.
+    pub numbers: Numbers,
     /// The folder that is entered before the run.
     pub folder: Option<&'a str>,
     /// How many steps the run may take, up to 1,000,000,000,000.
@@ -71,6 +74,8 @@ pub struct Check<'a> {
     pub base: Option<&'a str>,
     /// The parts of the script, one at least.
     pub script: Vec<ScriptPart<'a>>,
+    /// Which numbers the script has.
+    pub numbers: Numbers,
     /// Whether it is enough that the policy denies nothing that is known before a run.
     pub allows_open: bool,
     /// Whether a JSON object is to tell of each site.
@@ -87,6 +92,8 @@ pub struct Lint<'a> {
     pub base: Option<&'a str>,
     /// The parts of the script.
     pub script: Vec<ScriptPart<'a>>,
+    /// Which numbers the script has.
+    pub numbers: Numbers,
     /// Whether whatever is told makes the exit status 1.
     pub is_strict: bool,
 }
@@ -102,6 +109,8 @@ pub struct Propose<'a> {
     pub policy: Option<&'a str>,
     /// The parts of the script.
     pub script: Vec<ScriptPart<'a>>,
+    /// Which numbers the script has.
+    pub numbers: Numbers,
     /// The name of the file of a log of denials.
     pub log: Option<&'a str>,
 }
@@ -111,6 +120,8 @@ pub struct Propose<'a> {
 pub struct List<'a> {
     /// The parts of the script, one at least.
     pub script: Vec<ScriptPart<'a>>,
+    /// Which numbers the script has.
+    pub numbers: Numbers,
     /// Whether it is to tell which lines of the script are whose, in place of where a run may ask.
     pub tells_files: bool,
     /// Whether a JSON object is to tell of each site.
@@ -246,6 +257,16 @@ fn last_script<'a>(alloc: Global) -> Arg<'a> {
     option(alloc, "last-script", "FILE", help).short('E')
 }
 
+// The values of `--numbers`.
+const NUMBERS: [&str; 2] = ["whole", "double"];
+
+fn numbers<'a>(alloc: Global) -> Arg<'a> {
+    let help = "Which numbers the script has: whole ones of 64 bits, or doubles of IEEE 754";
+    long_option(alloc, "numbers", "PROFILE", help)
+        .value_parser(NUMBERS.as_slice())
+        .default_value("whole")
+}
+
 fn files<'a>(alloc: Global) -> Arg<'a> {
     flag(
         alloc,
@@ -339,7 +360,10 @@ fn operands<'a>(alloc: Global) -> Arg<'a> {
 
 // Who has a command hands it on before the next step may fail, so that it is not let go at each of them.
 fn with_script<'a>(command: Command<'a>, alloc: Global) -> Result<Command<'a>, AllocError> {
-    command.arg(needed_script(alloc)?)?.arg(source(alloc))
+    command
+        .arg(numbers(alloc))?
+        .arg(needed_script(alloc)?)?
+        .arg(source(alloc))
 }
 
 fn run_command<'a>(alloc: Global) -> Result<Command<'a>, AllocError> {
@@ -401,6 +425,7 @@ fn lint_command<'a>(alloc: Global) -> Result<Command<'a>, AllocError> {
         .arg(policy(alloc).required(false))?
         .arg(base(alloc))?
         .arg(strict(alloc))?
+        .arg(numbers(alloc))?
         .arg(script(alloc))?
         .arg(source(alloc))
 }
@@ -412,6 +437,7 @@ fn propose_command<'a>(alloc: Global) -> Result<Command<'a>, AllocError> {
         .arg(base(alloc))?
         .arg(policy(alloc).required(false))?
         .arg(denials(alloc))?
+        .arg(numbers(alloc))?
         .arg(script(alloc))?
         .arg(source(alloc))
 }
@@ -474,6 +500,14 @@ fn log_limit_of(alloc: Global, matches: &ArgMatches<'_>) -> Result<u64, Error> {
             alloc,
             "the value of --log-limit is not a whole number from 0 to 18446744073709551615",
         )),
+    }
+}
+
+// `clap` lets no other value through.
+fn numbers_of(matches: &ArgMatches<'_>) -> Numbers {
+    match matches.get_str("numbers") {
+        Some("double") => Numbers::Double,
+        _ => Numbers::Whole,
     }
 }
 
@@ -579,6 +613,7 @@ fn run_of<'a>(alloc: Global, matches: &ArgMatches<'a>) -> Result<Run<'a>, Error>
         audit: matches.get_str("audit"),
         report: matches.get_str("report"),
         script,
+        numbers: numbers_of(matches),
         folder: matches.get_str("folder"),
         steps: steps_of(alloc, matches)?,
         separator: matches.get_str("separator"),
@@ -592,6 +627,7 @@ fn list_of<'a>(alloc: Global, matches: &ArgMatches<'a>) -> Result<List<'a>, Erro
     check_inputs(alloc, None, script.as_slice())?;
     let asked = List {
         script,
+        numbers: numbers_of(matches),
         tells_files: matches.get_flag("files"),
         is_json: matches.get_flag("json"),
     };
@@ -609,6 +645,7 @@ fn check_of<'a>(alloc: Global, matches: &ArgMatches<'a>) -> Result<Check<'a>, Er
         policy,
         base: matches.get_str("base"),
         script,
+        numbers: numbers_of(matches),
         allows_open: matches.get_flag("allow-open"),
         is_json: matches.get_flag("json"),
     })
@@ -635,6 +672,7 @@ fn lint_of<'a>(alloc: Global, matches: &ArgMatches<'a>) -> Result<Lint<'a>, Erro
         policy: matches.get_str("policy"),
         base: matches.get_str("base"),
         script: script_of(alloc, matches)?,
+        numbers: numbers_of(matches),
         is_strict: matches.get_flag("strict"),
     };
     if asked.policy.is_none() && asked.script.is_empty() {
@@ -652,6 +690,7 @@ fn propose_of<'a>(alloc: Global, matches: &ArgMatches<'a>) -> Result<Propose<'a>
         base: matches.get_str("base"),
         policy: matches.get_str("policy"),
         script: script_of(alloc, matches)?,
+        numbers: numbers_of(matches),
         log: matches.get_str("log"),
     };
     if asked.base.is_none() && asked.policy.is_none() {

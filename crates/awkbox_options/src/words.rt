@@ -41,7 +41,7 @@ enum Next {
 
 const SHORT: [&str; 6] = [SCRIPT, TEXT, LAST, "-v", "-F", "-C"];
 
-const LONG: [&str; 7] = [
+const LONG: [&str; 8] = [
     "--policy",
     "--log",
     "--log-limit",
@@ -49,6 +49,7 @@ const LONG: [&str; 7] = [
     "--report",
     "--steps",
     "--base",
+    "--numbers",
 ];
 
 // Whether the next word is the value of this one.

@@ -4,8 +4,8 @@ use crate::runs::read_source;
 use crate::scripts::read_script;
 use awk_hints::script_lines;
 use awk_sources::Lines;
-use awkbox::{Memory, Message, sites_of};
-use awkbox_options::{Lint, ScriptPart, Why};
+use awkbox::{Memory, Message, Numbers, sites_of};
+use awkbox_options::{Lint, Why};
 use box_advice::{Findings, Wanted, explained, lint};
 
 /// The exit status where a policy is refused.
@@ -51,7 +51,7 @@ pub fn lint_files(
         None => Told::Nothing,
     };
     let script = match asked.script.is_empty() {
-        false => lint_script(rt, asked.script.as_slice(), lines)?,
+        false => lint_script(rt, asked, lines)?,
         true => Told::Nothing,
     };
     match (policy, script) {
@@ -82,17 +82,17 @@ fn lint_policy(rt: &HostRuntime, policy: &str, base: Option<&str>) -> Result<Tol
 
 fn lint_script(
     rt: &HostRuntime,
-    parts: &[ScriptPart<'_>],
+    asked: &Lint<'_>,
     lines: &mut Option<Lines>,
 ) -> Result<Told, Message> {
-    let source = read_script(rt, parts, lines)?;
-    lint_text(rt, source.bytes.as_slice())
+    let source = read_script(rt, asked.numbers, asked.script.as_slice(), lines)?;
+    lint_text(rt, asked.numbers, source.bytes.as_slice())
 }
 
 // A script that has no listing is refused.
-fn lint_text(rt: &HostRuntime, script: &[u8]) -> Result<Told, Message> {
-    sites_of(rt.alloc(), script)?;
-    match script_lines(rt.alloc(), script) {
+fn lint_text(rt: &HostRuntime, numbers: Numbers, script: &[u8]) -> Result<Told, Message> {
+    sites_of(rt.alloc(), numbers, script)?;
+    match script_lines(rt.alloc(), numbers, script) {
         Ok(lines) => Ok(print_lines(rt, lines.as_str())),
         Err(error) => Err(Message::Script(error)),
     }

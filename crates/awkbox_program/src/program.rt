@@ -102,12 +102,12 @@ fn list_script(
     asked: &List<'_>,
     lines: &mut Option<Lines>,
 ) -> Result<u8, Message> {
-    let script = read_script(rt, asked.script.as_slice(), lines)?;
+    let script = read_script(rt, asked.numbers, asked.script.as_slice(), lines)?;
     if asked.tells_files {
         return tell_files(rt, lines);
     }
     let format = format_of(asked.is_json);
-    let answer = list(rt.alloc(), script.bytes.as_slice(), format)?;
+    let answer = list(rt.alloc(), asked.numbers, script.bytes.as_slice(), format)?;
     Ok(told(rt, &answer))
 }
 
@@ -126,7 +126,7 @@ fn check_files(
     lines: &mut Option<Lines>,
 ) -> Result<u8, Message> {
     let policy = read_source(rt, asked.policy)?;
-    let script = read_script(rt, asked.script.as_slice(), lines)?;
+    let script = read_script(rt, asked.numbers, asked.script.as_slice(), lines)?;
     check_texts(rt, asked, policy.bytes.as_slice(), script.bytes.as_slice())
 }
 
@@ -138,7 +138,14 @@ fn check_texts(
 ) -> Result<u8, Message> {
     let base = base_name(rt, asked.base)?;
     let format = format_of(asked.is_json);
-    let answer = check(rt.alloc(), policy, base_bytes(&base), script, format)?;
+    let answer = check(
+        rt.alloc(),
+        asked.numbers,
+        policy,
+        base_bytes(&base),
+        script,
+        format,
+    )?;
     let status = told(rt, &answer);
     Ok(if asked.allows_open && answer.is_open {
         0

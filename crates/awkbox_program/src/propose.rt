@@ -3,8 +3,8 @@ use crate::folders::base_name;
 use crate::runs::read_source;
 use crate::scripts::read_script;
 use awk_sources::Lines;
-use awkbox::{Message, sites_of};
-use awkbox_options::{Propose, ScriptPart};
+use awkbox::{Message, Numbers, sites_of};
+use awkbox_options::Propose;
 use box_advice::{Basis, LogError, Origin, ProposalError, Wish, propose, read_log};
 use std::alloc::{AllocError, Global};
 use std::fmt::Display;
@@ -132,7 +132,7 @@ fn wishes_of(
 ) -> Result<Vec<Wish>, NotProposed> {
     let mut wishes = Vec::new(rt.alloc());
     if !asked.script.is_empty() {
-        add_script(rt, asked.script.as_slice(), &mut wishes, lines)?;
+        add_script(rt, asked, &mut wishes, lines)?;
     }
     if let Some(log) = asked.log {
         add_log(rt, log, &mut wishes)?;
@@ -142,16 +142,21 @@ fn wishes_of(
 
 fn add_script(
     rt: &HostRuntime,
-    parts: &[ScriptPart<'_>],
+    asked: &Propose<'_>,
     wishes: &mut Vec<Wish>,
     lines: &mut Option<Lines>,
 ) -> Result<(), NotProposed> {
-    let script = read_script(rt, parts, lines)?;
-    Ok(add_sites(rt.alloc(), script.bytes.as_slice(), wishes)?)
+    let script = read_script(rt, asked.numbers, asked.script.as_slice(), lines)?;
+    Ok(add_sites(rt.alloc(), asked.numbers, script.bytes.as_slice(), wishes)?)
 }
 
-fn add_sites(alloc: Global, script: &[u8], wishes: &mut Vec<Wish>) -> Result<(), Message> {
-    for site in sites_of(alloc, script)? {
+fn add_sites(
+    alloc: Global,
+    numbers: Numbers,
+    script: &[u8],
+    wishes: &mut Vec<Wish>,
+) -> Result<(), Message> {
+    for site in sites_of(alloc, numbers, script)? {
         let wish = Wish {
             kind: site.kind,
             text: site.text,

@@ -2,7 +2,7 @@
 use crate::files::{MOST_BYTES, last_bytes, read};
 use crate::folders::{absolute, base_name};
 use awk_reasons::{denied, reason, told_of};
-use awkbox::{Fault, Memory, Message, Place, Policy, PolicyError, SyntaxError};
+use awkbox::{Fault, Memory, Message, Numbers, Place, Policy, PolicyError, SyntaxError};
 use awkbox_options::{Asked, STANDARD_INPUT, ScriptPart, read_words};
 use std::fs::{File, metadata};
 use std::io::{Error, ErrorKind};
@@ -45,6 +45,18 @@ fn script_of<'b, 'a>(asked: &'b Asked<'a>) -> &'b [ScriptPart<'a>] {
         Asked::Propose(propose) => propose.script.as_slice(),
         Asked::Lint(lint) => lint.script.as_slice(),
         Asked::Why(_) => &[],
+    }
+}
+
+// Which numbers the script has, where there is one.
+fn numbers_of(asked: &Asked<'_>) -> Numbers {
+    match asked {
+        Asked::Run(run) => run.numbers,
+        Asked::List(list) => list.numbers,
+        Asked::Check(check) => check.numbers,
+        Asked::Propose(propose) => propose.numbers,
+        Asked::Lint(lint) => lint.numbers,
+        Asked::Why(_) => Numbers::Whole,
     }
 }
 
@@ -111,7 +123,7 @@ fn of_script(
     error: SyntaxError,
 ) -> Option<String> {
     let bytes = read_again(rt, script_of(asked), files.script.as_slice())?;
-    let words = reason(rt.alloc(), bytes.as_slice(), error).ok()?;
+    let words = reason(rt.alloc(), numbers_of(asked), bytes.as_slice(), error).ok()?;
     match words.as_str().is_empty() {
         true => None,
         false => Some(words),

@@ -9,9 +9,9 @@ use crate::setup::setup_of;
 use crate::standard;
 use awk_sources::{InSource, Lines};
 use awkbox::{
-    Account, Ending, Fault, Identity, LimitedLog, LogEnd, Memory, Message, Octets, OsWorld,
-    Outcome, OwnFile, Place, Policy, Prepared, Ran, Refusal, Report, Setup, Warning, may_be_log,
-    may_start, prepare, writing_rule,
+    Account, Ending, Fault, Identity, LimitedLog, LogEnd, Memory, Message, Numbers, Octets,
+    OsWorld, Outcome, OwnFile, Place, Policy, Prepared, Ran, Refusal, Report, Setup, Warning,
+    may_be_log, may_start, prepare, writing_rule,
 };
 use awkbox_options::{Run, STANDARD_INPUT, ScriptPart};
 use box_audit::watched::Watched;
@@ -73,7 +73,7 @@ fn reported(
 ) -> Result<Ending, Message> {
     let mut report = open_report(rt, run, name, operands.as_slice())?;
     let account = account_of(rt, run, operands, Some(report.identity), lines);
-    let is_written = write_report(rt, &mut report.file, &account, lines);
+    let is_written = write_report(rt, run, &mut report.file, &account, lines);
     let ending = account.ending();
     match is_written {
         true => Ok(ending),
@@ -120,11 +120,12 @@ fn beside_report(
 // Whether the account stands whole in the file.
 fn write_report(
     rt: &HostRuntime,
+    run: &Run<'_>,
     report: &mut File,
     account: &Account,
     lines: &Option<Lines>,
 ) -> bool {
-    match account_text(rt, account, lines) {
+    match account_text(rt.alloc(), run.numbers, account, lines) {
         Ok(mut text) => {
             text.push('\n').is_ok() && report.write_all(text.as_str().as_bytes()).is_ok()
         }
@@ -143,15 +144,25 @@ fn account_place(account: &Account) -> Option<Place> {
     }
 }
 
-// The account as a JSON object.
+fn numbers_word(numbers: Numbers) -> &'static str {
+    match numbers {
+        Numbers::Whole => "whole",
+        Numbers::Double => "double",
+    }
+}
+
+// The account of a script with these numbers as a JSON object.
 fn account_text(
-    rt: &HostRuntime,
+    alloc: Global,
+    numbers: Numbers,
     account: &Account,
     lines: &Option<Lines>,
 ) -> Result<String, Memory> {
-    let mut value = account.value(rt.alloc())?;
-    tell_source(rt.alloc(), &mut value, account, lines)?;
-    value.to_string(rt.alloc())
+    let mut value = account.value(alloc)?;
+    let word = Value::try_from_str(alloc, numbers_word(numbers))?;
+    set_member(alloc, &mut value, "numbers", word)?;
+    tell_source(alloc, &mut value, account, lines)?;
+    value.to_string(alloc)
 }
 
 // Of a script of several parts an account has the one that it is about.
@@ -236,7 +247,7 @@ fn read_sources(
     lines: &mut Option<Lines>,
 ) -> Result<Sources, Message> {
     let policy = read_source(rt, run.policy)?;
-    let script = read_script(rt, run.script.as_slice(), lines)?;
+    let script = read_script(rt, run.numbers, run.script.as_slice(), lines)?;
     Ok(Sources { policy, script })
 }
 

@@ -1,7 +1,7 @@
 // The script: one file, or several files and texts as one.
 use crate::files::{MOST_BYTES, ReadFile, look, read_up_to};
 use awk_sources::{InSource, Lines, Source, joined};
-use awkbox::{Identity, Memory, Message, Place, ReadError};
+use awkbox::{Identity, Memory, Message, Numbers, Place, ReadError};
 use awkbox_options::{STANDARD_INPUT, ScriptPart};
 use std::alloc::Global;
 
@@ -95,10 +95,11 @@ fn read_parts(rt: &HostRuntime, parts: &[ScriptPart<'_>]) -> Result<Reading, Mes
     Ok(reading)
 }
 
-/// Reads the parts of a script as one, which may not be too long, and sets whose its lines are, also where they are
-/// refused.
+/// Reads the parts of a script with these numbers as one, which may not be too long, and sets whose its lines are,
+/// also where they are refused.
 pub fn read_script(
     rt: &HostRuntime,
+    numbers: Numbers,
     parts: &[ScriptPart<'_>],
     lines: &mut Option<Lines>,
 ) -> Result<ReadScript, Message> {
@@ -108,7 +109,7 @@ pub fn read_script(
         ..
     } = read_parts(rt, parts)?;
     *lines = Some(Lines::of(rt.alloc(), sources.as_slice())?);
-    match joined(rt.alloc(), sources) {
+    match joined(rt.alloc(), numbers, sources) {
         Ok(bytes) => Ok(ReadScript { identities, bytes }),
         Err(error) => Err(Message::Script(error)),
     }

@@ -18,22 +18,24 @@ pub returns-clause-ok : goal.returns-clause-ok
 returns-clause-ok c =
     let is : IfOk c.parse.result (λ s. IsSpelled c.in_ok-tokens.tokens.items s) =
     rw c.as_slice.ensures.value at c.parse.ensures.spelled in
-    read c.args.script.now c.in_ok-tokens.tokens.items c.parse.result c.in_ok-tokens.ensures.read is
+    read c.args.numbers c.args.script.now c.in_ok-tokens.tokens.items c.parse.result c.in_ok-tokens.ensures.read
+    c.parse.ensures.profile is
 
 pub returns-clause-spells : goal.returns-clause-spells
 returns-clause-spells c =
     let is : IfOk c.parse.result (λ s. IsSpelled c.in_ok-tokens.tokens.items s) =
     rw c.as_slice.ensures.value at c.parse.ensures.spelled in
-    spelled c.args.script.now c.in_ok-tokens.tokens.items c.parse.result c.in_ok-tokens.ensures.read is
+    spelled c.args.numbers c.args.script.now c.in_ok-tokens.tokens.items c.parse.result c.in_ok-tokens.ensures.read
+    c.parse.ensures.profile is
 
 pub returns-clause-refused : goal.returns-clause-refused
 returns-clause-refused c =
     let why : IfErr c.parse.result (λ e. IsRefused c.in_ok-tokens.tokens.items e) =
     rw c.as_slice.ensures.value at c.parse.ensures.refused in
-    refused c.args.script.now c.in_ok-tokens.tokens.items c.parse.result c.in_ok-tokens.ensures.read why
+    refused c.args.numbers c.args.script.now c.in_ok-tokens.tokens.items c.parse.result c.in_ok-tokens.ensures.read why
 
 pub returns-clause-told : goal.returns-clause-told
 returns-clause-told c =
     let why : IfErr c.parse.result (λ e. IsRefused c.in_ok-tokens.tokens.items e) =
     rw c.as_slice.ensures.value at c.parse.ensures.refused in
-    told c.args.script.now c.in_ok-tokens.tokens.items c.parse.result c.in_ok-tokens.ensures.read why
+    told c.args.numbers c.args.script.now c.in_ok-tokens.tokens.items c.parse.result c.in_ok-tokens.ensures.read why
