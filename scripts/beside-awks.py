@@ -1,9 +1,10 @@
 #!/usr/bin/env python3
 """Runs random scripts by awkbox and by the other awks that are installed, and compares what comes of them.
 
-The scripts and their inputs are of the common part of the language: whole numbers of moderate size, and nothing of
-what docs/LANGUAGE.md lists under "Where other awks answer otherwise". Each runs in a folder of its own, awkbox under a
-policy that allows what the scripts ask for. Compared are the exit status, the standard output and the files left.
+The scripts and their inputs are of the common part of the language: whole numbers of moderate size, with `--numbers
+double` fractions too, and nothing of what docs/LANGUAGE.md lists under "Where other awks answer otherwise". Each runs
+in a folder of its own, awkbox under a policy that allows what the scripts ask for. Compared are the exit status, the
+standard output and the files left.
 
 A script fails where all other awks agree with one another and awkbox answers otherwise; where a single other awk is
 installed, where the two differ. A script is undecided, and only counted, where the others do not agree, where a run
@@ -264,6 +265,27 @@ main-block
     1 any { if (<condition>) exit; <print-statement> }
 """
 
+# What stands in the grammar beside it with `--numbers double`. A quotient may be a negative zero in other awks, which
+# the sum with 0 is not; what is printed of a fraction goes by OFMT and CONVFMT, which stay as they are.
+FRACTIONS = r"""
+number
+    6 operand <decimal>
+    4 sum <number:product> / <divisor> + 0
+    2 sum <number:product> / <decimal> + 0
+    2 product <positive:product> * <decimal>
+    2 sum int(<number:product> * <decimal> + 0) + 0
+    2 operand (<field> + 0)
+    1 sum <number:product> % <decimal> + 0
+power
+    1 power <few> ^ <decimal>
+statement
+    4 any <number-target> += <decimal>
+    2 any <number-target> = <number:product> / <divisor> + 0
+    2 any <number-array>[<key>] += <decimal>
+    2 any if (length($<place>)) <number-array>[<key>] += ${place}
+    3 any printf <format>
+"""
+
 # What a part becomes where it is made as small as it goes.
 LEAST = {
     "number": ["0", "1"],
@@ -391,8 +413,22 @@ def read_grammar(text):
 
 FORMS = read_grammar(GRAMMAR)
 
+
+def add_fractions():
+    """What `--numbers double` adds to the grammar, to the conversions of printf and to the numbers of the input."""
+    for kind, forms in read_grammar(FRACTIONS).items():
+        FORMS[kind] += forms
+        SHALLOW[kind] += [form for form in forms if not form.kinds & DEEP]
+    DIRECTIVES.extend((conversion, "number", ["-", "+", " ", "0", "-+", "#"]) for conversion in "eEfffggG")
+    LINE_NUMBERS.extend(["1.5", ".25", "-0.75", "1e3", "2.50", "3.0", "+.5", "12.", "1e-2", "0.1", "99.95"])
+
+
+# Numbers that the input has.
+LINE_NUMBERS = [0, 1, 2, 5, 9, 10, 12, 100, 999, "05", "+7", -1, -20]
+
 # Parts that are made of one word, and may become another when a script is made smaller.
 CONSTANTS = {
+    "decimal": ["0.5", ".25", "1.5", "3.14159", "2.", "1e2", "1.5e-1", "10.75", "0.1", "1e-3", "99.99"],
     "few": ["0", "1", "1", "2", "2", "3", "4", "5", "9"],
     "field": ["$0", "$1", "$1", "$2", "$3", "$NF", "$(1 + 1)"],
     "replacement": ['""', '"x"', '"&"', '"<&>"', r'"\\&"', '"-&"', '"a b"'],
@@ -681,7 +717,7 @@ def make_line(choose):
     words = []
     for _ in range(choose.choice([0, 1, 2, 3, 3, 4, 5])):
         word = "".join(choose.choices("abcABC", k=choose.randint(1, 3)))
-        number = str(choose.choice([0, 1, 2, 5, 9, 10, 12, 100, 999, "05", "+7", -1, -20]))
+        number = str(choose.choice(LINE_NUMBERS))
         words.append(choose.choice([word, number, number, word + number]))
         words.append(choose.choice([" ", " ", " ", "  ", "\t", ":", ":", ",", ", ", ";"]))
     return "".join(words[:-1] if choose.random() < 0.8 else words)
@@ -778,8 +814,8 @@ class Awk:
 class Awkbox(Awk):
     """The built program, under a policy that allows what the scripts ask for."""
 
-    def __init__(self, program, room):
-        super().__init__("awkbox", [str(program), "run"], room)
+    def __init__(self, program, numbers, room):
+        super().__init__("awkbox", [str(program), "run", "--numbers", numbers], room)
         policy = self.folder.parent / "policy.toml"
         rules = "".join(RULE.format(kind=kind, pattern=pattern) for kind, pattern in ALLOWED)
         policy.write_text(f'version = 1\nbase = "{self.folder}"\n{rules}')
@@ -1062,6 +1098,7 @@ def read_words():
     option("--count", type=int, help="how many scripts (1000; with --seconds, as many as there is time for)")
     option("--seconds", type=float, help="how long at most")
     option("--beside", action="append", choices=OTHERS, help="an awk to compare with, in place of all; may be repeated")
+    option("--numbers", choices=["whole", "double"], default="whole", help="which numbers the scripts have (whole)")
     option("--alone", action="store_true", help="tell undecided scripts too, where awkbox agrees with no other awk")
     option("--program", type=Path, default=os.environ.get("AWKBOX_PROGRAM", BUILT),
            help="the built program (what ./build made, or what AWKBOX_PROGRAM names)")
@@ -1077,6 +1114,8 @@ def main():
     if not os.access(program, os.X_OK):
         sys.exit(f"{program} is not there; run ./build")
     limit()
+    if words.numbers == "double":
+        add_fractions()
     with tempfile.TemporaryDirectory() as room:
         room = Path(room).resolve()
         awks = installed(words.beside, room)
@@ -1084,7 +1123,7 @@ def main():
             print("no other awk is installed, so nothing is compared")
             print("0 passed, 0 failed")
             return 0
-        return 1 if compare(words, Awkbox(program, room), awks) else 0
+        return 1 if compare(words, Awkbox(program, words.numbers, room), awks) else 0
 
 
 if __name__ == "__main__":

@@ -885,22 +885,28 @@ reports() {
 }
 # refused STATUS MESSAGE: the report of a run that was refused by this line
 refused() {
-    printf '{"denials":0,"exit_status":%s,"fault":null,"log":null,"outcome":"refused","refusal":"%s","steps":0}' "$1" \
+    printf '{"denials":0,"exit_status":%s,"fault":null,"log":null,"numbers":"whole","outcome":"refused","refusal":"%s","steps":0}' "$1" \
         "$(sed 's/[\\"]/\\&/g' <<<"$2")"
 }
 no_rules
 script 'BEGIN { exit 3 }'
-reports 3 '{"denials":0,"exit_status":3,"fault":null,"log":"whole","outcome":"status","refusal":null,"steps":1}'
+reports 3 '{"denials":0,"exit_status":3,"fault":null,"log":"whole","numbers":"whole","outcome":"status","refusal":null,"steps":1}'
 is 3 "" "" ""
 verdict "the report of a run that ended by itself"
 script 'BEGIN { system("a"); system("b"); print "c" > "d" }'
-reports 2 '{"denials":3,"exit_status":2,"fault":{"code":"F7","column":45,"line":1,"text":"cannot open or write output"},"log":"whole","outcome":"fault","refusal":null,"steps":3}'
+reports 2 '{"denials":3,"exit_status":2,"fault":{"code":"F7","column":45,"line":1,"text":"cannot open or write output"},"log":"whole","numbers":"whole","outcome":"fault","refusal":null,"steps":3}'
 verdict "the report of a run that ended with a fault"
+script 'BEGIN { print 1 / 4, 2 ^ .5, 1e3; exit 3 }'
+reports 3 '{"denials":0,"exit_status":3,"fault":null,"log":"whole","numbers":"double","outcome":"status","refusal":null,"steps":2}' --numbers double
+is 3 "0.25 1.41421 1000$line" "" ""
+verdict "numbers of the standard"
+reports 3 "$(refused 3 'awkbox: script 1:26 S3')"
+verdict "a script of the standard's numbers is refused without them"
 script 'BEGIN { while (1) n++ }'
-reports 4 '{"denials":0,"exit_status":4,"fault":null,"log":"whole","outcome":"cut","refusal":null,"steps":7}' --steps 7
+reports 4 '{"denials":0,"exit_status":4,"fault":null,"log":"whole","numbers":"whole","outcome":"cut","refusal":null,"steps":7}' --steps 7
 verdict "the report of a run that took its steps"
 script 'BEGIN { system("a") }'
-reports 2 '{"denials":0,"exit_status":2,"fault":{"code":"F12","column":9,"line":1,"text":"cannot write the denial log"},"log":"part","outcome":"fault","refusal":null,"steps":1}' --log-limit 3
+reports 2 '{"denials":0,"exit_status":2,"fault":{"code":"F12","column":9,"line":1,"text":"cannot write the denial log"},"log":"part","numbers":"whole","outcome":"fault","refusal":null,"steps":1}' --log-limit 3
 verdict "the report of a run whose log is full"
 script 'BEGIN { @ }'
 reports 3 "$(refused 3 'awkbox: script 1:9 S1')"
@@ -1062,7 +1068,7 @@ for blocks in '' --block-buffered; do
     # shellcheck disable=SC2086 # none, or one
     run --audit /dev/full --report "$work/report" $blocks
     is 2 "a${line}b$line" "${no_audit}awkbox: 1:20 F12 cannot write the denial log$line" "" &&
-        holds "$work/report" '{"denials":0,"exit_status":2,"fault":{"code":"F12","column":20,"line":1,"text":"cannot write the denial log"},"log":"whole","outcome":"fault","refusal":null,"steps":2}'"$line"
+        holds "$work/report" '{"denials":0,"exit_status":2,"fault":{"code":"F12","column":20,"line":1,"text":"cannot write the denial log"},"log":"whole","numbers":"whole","outcome":"fault","refusal":null,"steps":2}'"$line"
     verdict "an audit that cannot be written ends the run${blocks:+, with $blocks}"
 done
 script 'BEGIN { while ((getline x < "in.txt") > 0) print x; system("echo b"); system("id >/dev/null"); system("echo c") }'
@@ -1244,7 +1250,7 @@ is 2 "" "awkbox: fault.awk:3:19 F7 cannot open or write output$line" "4:19 write
 verdict "a fault is told by file and place, and the log has the place in the whole"
 parts -f lib.awk -e 'BEGIN { @ }' --report "$work/report"
 is 3 "" "awkbox: script -e 1:1:9 S1$line" "from another run$line" && [ "$(cat "$work/report")" = \
-    '{"denials":0,"exit_status":3,"fault":null,"log":null,"outcome":"refused","refusal":"awkbox: script -e 1:1:9 S1","source":{"column":9,"line":1,"name":"-e 1"},"steps":0}' ]
+    '{"denials":0,"exit_status":3,"fault":null,"log":null,"numbers":"whole","outcome":"refused","refusal":"awkbox: script -e 1:1:9 S1","source":{"column":9,"line":1,"name":"-e 1"},"steps":0}' ]
 verdict "the report of a text that is refused"
 parts -f lib.awk -f fault.awk -e 'BEGIN { x = }'
 is 3 "" "awkbox: script -e 1:1:13 S4$line" ""
@@ -2779,6 +2785,57 @@ status=$(cat "$work/status")
 is 2 "" "awkbox: 1:9 F7 cannot open or write output$line" ""
 verdict "a standard output that is a pipe that nobody reads"
 
+# Numbers: whole ones, or doubles where the words ask for them.
+no_rules
+script 'BEGIN { x = 1.5; print x + 1e3, 7 / 2, 2 ^ .5; printf "%.2f %d\n", 10 / 3, 2.9 }'
+run --numbers double
+is 0 "1001.5 3.5 1.41421${line}3.33 2$line" "" ""
+verdict "a run with doubles"
+for words in '' '--numbers whole' '--numbers=whole'; do
+    # shellcheck disable=SC2086
+    run $words
+    is 3 "" "awkbox: script 1:13 S3$line" ""
+    verdict "a run without doubles, by '$words'"
+done
+run --numbers decimal
+[ "$status" -eq 3 ] && grep -q "^error: invalid value 'decimal' for '--numbers <PROFILE>'" "$work/errors"
+verdict "numbers that no script has"
+reports 0 '{"denials":0,"exit_status":0,"fault":null,"log":"whole","numbers":"double","outcome":"status","refusal":null,"steps":3}' \
+    --numbers double
+verdict "the report of a run with doubles"
+printf 'function half(x) { return x / 2 }\n' >lib.awk
+awkbox run --numbers double --policy "$work/policy.toml" --log "$work/log" -f lib.awk -e 'BEGIN { print half(2.5) }'
+is 0 "1.25$line" "" ""
+verdict "several files with doubles"
+awkbox run --policy "$work/policy.toml" --log "$work/log" -f lib.awk -e 'BEGIN { print half(2.5) }'
+is 3 "" "awkbox: script -e 1:1:20 S3$line" ""
+verdict "several files without doubles"
+awkbox run --numbers double --policy "$work/policy.toml" --log "$work/log" -e 'BEGIN { print 1e999 }'
+is 3 "" "awkbox: script 1:15 S3$line" "" && grep -q 'note: a number is at most 1.79' "$work/errors"
+verdict "a number beyond the largest double"
+text='BEGIN { print 1.5 > "out/a" }'
+awkbox list --numbers double -e "$text"
+told 0 "1:19 write \"out/a\"$line" ""
+verdict "a listing with doubles"
+awkbox check --numbers double --policy "$work/policy.toml" -e "$text"
+told 1 "refused${line}1:19 write \"out/a\"$line" ""
+verdict "a check with doubles"
+awkbox propose --numbers double --base "$base" -e "$text"
+[ "$status" -eq 0 ] && grep -q '^# 1:19' "$work/output"
+verdict "a proposal with doubles"
+for command in list "check --policy $work/policy.toml" "propose --base $base" lint; do
+    # shellcheck disable=SC2086
+    awkbox $command -e "$text"
+    told 3 "" "awkbox: script 1:15 S3$line"
+    verdict "${command%% *} without doubles"
+done
+awkbox lint --numbers double -e 'BEGIN { n = 7; print n / 2; printf "%f", n }'
+told 0 "" ""
+verdict "a lint with doubles knows of no fraction that is dropped"
+awkbox lint -e 'BEGIN { n = 7; print n / 2; printf "%f", n }'
+[ "$status" -eq 0 ] && [ "$(cut -d ' ' -f 1 "$work/output" | tr '\n' ' ')" = '1:24 1:36 ' ]
+verdict "a lint without doubles knows of both"
+
 # The words of the command line: the help, the manual page and the completions say what
 # docs/options.txt says.
 
@@ -3066,9 +3123,10 @@ completed() {
         echo "${COMPREPLY[@]}"' - "$top/completions/awkbox.bash" "$@" 2>&1
 }
 [ "$(completed awkbox r)" = run ] && [ "$(completed awkbox run --p)" = --policy ] &&
-    [ "$(completed awkbox check --)" = "--policy --base --allow-open --json --help" ] &&
+    [ "$(completed awkbox check --)" = "--policy --base --allow-open --json --numbers --help" ] &&
     [ "$(completed awkbox run --log-l)" = --log-limit ] && [ "$(completed awkbox run -C "$work/elsew")" = "$work/elsewhere" ] &&
-    [ "$(completed awkbox list -f a -)" = "--files --json -f -e --help" ] &&
+    [ "$(completed awkbox list -f a -)" = "--files --json --numbers -f -e --help" ] &&
+    [ "$(completed awkbox list --numbers d)" = double ] && [ "$(completed awkbox list --numbers = w)" = whole ] &&
     [ "$(completed awkbox run -f a -- "$work/kept.t")" = "$work/kept.toml" ] &&
     [ "$(completed awkbox run --policy "$work/kept.t")" = "$work/kept.toml" ]
 verdict "the completions for bash"

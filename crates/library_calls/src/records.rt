@@ -5,6 +5,7 @@ use crate::readers;
 use crate::row::{Arg, Row};
 use crate::shown::{Shown, bytes, show, show_value, told};
 use awk_fields::{Record, Splitter};
+use awk_numbers::number::Numbers;
 use awk_text::fault::Fault;
 use awk_text::octets::Octets;
 use awk_text::value::text_of;
@@ -18,7 +19,7 @@ fn set_whole(alloc: Global, record: &mut Record, fs: &[u8], text: &[u8]) -> Show
 
 fn set_field(alloc: Global, record: &mut Record, args: &[Arg<'_>]) -> Shown {
     let at = number(args, 1)?;
-    let mut values = values(alloc, args, 2)?;
+    let mut values = values(alloc, Numbers::Whole, args, 2)?;
     values.truncate(1);
     match values.pop() {
         Some(value) => {

@@ -1,5 +1,7 @@
 // Answers, as rows write them.
 use crate::problem::Problem;
+use awk_numbers::number::Number;
+use awk_text::buffer::Buffer;
 use awk_text::octets::Octets;
 use awk_text::value::Value;
 use std::alloc::{AllocError, Global};
@@ -21,11 +23,18 @@ pub fn yes_or_no(alloc: Global, is_so: bool) -> Shown {
     bytes(alloc, if is_so { b"yes" } else { b"no" })
 }
 
+/// A number by its text.
+pub fn show_number(alloc: Global, number: Number) -> Shown {
+    let mut buffer = Buffer::new();
+    bytes(alloc, buffer.text(number))
+}
+
 /// A value as an argument writes it.
 pub fn show_value(alloc: Global, value: &Value) -> Shown {
     match value {
         Value::Unset => bytes(alloc, b"unset"),
         Value::Num(number) => show(alloc, *number),
+        Value::Real(number) => show_number(alloc, Number::Real(*number)),
         Value::Text(text) => bytes(alloc, text.bytes()),
         Value::Input(text) => {
             let mut shown = Vec::from_slice(alloc, b"field ".as_slice())?;

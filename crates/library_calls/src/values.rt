@@ -1,12 +1,13 @@
 // Values, their arithmetic, and texts as scripts and logs write them.
-use crate::args::{name, number, text, values};
+use crate::args::{name, number, number_in, profile, text, values};
 use crate::problem::Problem;
 use crate::row::Arg;
-use crate::shown::{Shown, bytes, show, show_value, yes_or_no};
+use crate::shown::{Shown, bytes, show, show_number, show_value, yes_or_no};
+use awk_numbers::number::{Number, Numbers};
 use awk_text::arithmetic::{add, div, mul, neg, pow, rem, sub};
 use awk_text::escape::unescape;
 use awk_text::fault::Fault;
-use awk_text::numeral::looks_numeric;
+use awk_text::numeral::looks_in;
 use awk_text::quote::quote_log;
 use awk_text::texts::join;
 use awk_text::value::{Value, compare, number_of, text_of, truth};
@@ -38,28 +39,28 @@ fn fault(alloc: Global, code: i64) -> Shown {
     Err(Problem::NoArgument)
 }
 
-fn of_two(call: &str, a: i64, b: i64) -> Result<i64, Problem> {
+fn of_two(numbers: Numbers, call: &str, a: Number, b: Number) -> Result<Number, Problem> {
     let found = match call {
-        "add" => add(a, b),
-        "sub" => sub(a, b),
-        "mul" => mul(a, b),
-        "div" => div(a, b),
-        "rem" => rem(a, b),
-        "pow" => pow(a, b),
+        "add" => add(numbers, a, b),
+        "sub" => sub(numbers, a, b),
+        "mul" => mul(numbers, a, b),
+        "div" => div(numbers, a, b),
+        "rem" => rem(numbers, a, b),
+        "pow" => pow(numbers, a, b),
         _ => return Err(Problem::NoCall),
     };
     Ok(found?)
 }
 
-fn looks(alloc: Global, text: &[u8]) -> Shown {
-    match looks_numeric(text) {
-        Some(number) => show(alloc, number),
+fn looks(alloc: Global, numbers: Numbers, text: &[u8]) -> Shown {
+    match looks_in(numbers, text) {
+        Some(number) => show_number(alloc, number),
         None => bytes(alloc, b"no"),
     }
 }
 
-fn order(alloc: Global, a: &Value, b: &Value) -> Shown {
-    let order: &[u8] = match compare(a, b) {
+fn order(alloc: Global, numbers: Numbers, a: &Value, b: &Value) -> Shown {
+    let order: &[u8] = match compare(numbers, a, b) {
         Ordering::Less => b"less",
         Ordering::Equal => b"equal",
         Ordering::Greater => b"greater",
@@ -67,32 +68,32 @@ fn order(alloc: Global, a: &Value, b: &Value) -> Shown {
     bytes(alloc, order)
 }
 
-fn of_values(alloc: Global, call: &str, values: &[Value]) -> Shown {
+fn of_values(alloc: Global, numbers: Numbers, call: &str, values: &[Value]) -> Shown {
     match (call, values) {
-        ("number", [value]) => show(alloc, number_of(value)?),
+        ("number", [value]) => show_number(alloc, number_of(numbers, value)?),
         ("text", [value]) => Ok(text_of(alloc, value)?),
-        ("truth", [value]) => yes_or_no(alloc, truth(value)),
+        ("truth", [value]) => yes_or_no(alloc, truth(numbers, value)),
         ("copy", [value]) => show_value(alloc, &value.copy(alloc)?),
-        ("compare", [a, b]) => order(alloc, a, b),
+        ("compare", [a, b]) => order(alloc, numbers, a, b),
         _ => Err(Problem::NoCall),
     }
 }
 
 /// The answer of the call.
 pub fn call(alloc: Global, args: &[Arg<'_>]) -> Shown {
+    let (numbers, args) = profile(args);
     match name(args, 0) {
         "fault" => fault(alloc, number(args, 1)?),
-        "looks_numeric" => looks(alloc, text(args, 1)),
+        "looks_numeric" => looks(alloc, numbers, text(args, 1)),
         "join" => Ok(join(alloc, text(args, 1), text(args, 2))?),
         "unescape" => Ok(unescape(alloc, text(args, 1))?),
         "quote_log" => Ok(quote_log(alloc, text(args, 1))?),
-        "neg" => show(alloc, neg(number(args, 1)?)?),
+        "neg" => show_number(alloc, neg(numbers, number_in(numbers, args, 1)?)?),
         "add" | "sub" | "mul" | "div" | "rem" | "pow" => {
-            show(
-                alloc,
-                of_two(name(args, 0), number(args, 1)?, number(args, 2)?)?,
-            )
+            let a = number_in(numbers, args, 1)?;
+            let b = number_in(numbers, args, 2)?;
+            show_number(alloc, of_two(numbers, name(args, 0), a, b)?)
         }
-        call => of_values(alloc, call, &values(alloc, args, 1)?),
+        call => of_values(alloc, numbers, call, &values(alloc, numbers, args, 1)?),
     }
 }

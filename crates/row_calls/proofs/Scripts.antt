@@ -114,7 +114,7 @@ tables pairs ts es = record {
 }
 
 abbrev program_by : Arrays → List Token → List Entry → Program
-program_by pairs ts es = program (tables pairs ts es) es
+program_by pairs ts es = program Whole (tables pairs ts es) es
 
 abbrev pub program_of : Arrays → Text → Program
 program_of pairs source = let ts = read (length source) [] source [] in program_by pairs (tokens_of ts) (items_of ts)

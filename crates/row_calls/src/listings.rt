@@ -1,5 +1,6 @@
 // What scripts may ask, as it is listed, and as it stands to a policy.
 use crate::parses::script;
+use awk_numbers::number::Numbers;
 use awk_parse::Script;
 use awk_text::octets::Octets;
 use box_listing::{check, lines_of, sites, verdict_lines};
@@ -17,7 +18,7 @@ pub fn sites_in(alloc: Global, script: &Script) -> Shown {
 }
 
 fn listed(alloc: Global, text: &[u8]) -> Shown {
-    let script = script(alloc, text)?;
+    let script = script(alloc, Numbers::Whole, text)?;
     let answer = sites_in(alloc, &script);
     script.release();
     answer
@@ -30,7 +31,7 @@ pub fn verdict_on(alloc: Global, policy: &Policy, script: &Script) -> Shown {
 }
 
 fn judged(alloc: Global, policy: &Policy, text: &[u8]) -> Shown {
-    let script = script(alloc, text)?;
+    let script = script(alloc, Numbers::Whole, text)?;
     let answer = verdict_on(alloc, policy, &script);
     script.release();
     answer

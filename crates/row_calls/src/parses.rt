@@ -3,16 +3,16 @@ use awk_numbers::number::Numbers;
 use awk_parse::{Script, canon, parse};
 use awk_text::Memory;
 use awk_tokens::{SyntaxError, Token, TokenKind, tokens};
-use library_calls::args::{name, text};
+use library_calls::args::{name, profile, text};
 use library_calls::problem::Problem;
 use library_calls::row::Arg;
 use library_calls::shown::{Shown, bytes, yes_or_no};
 use std::alloc::Global;
 
-/// The script of this text.
-pub fn script(alloc: Global, text: &[u8]) -> Result<Script, Problem> {
-    let tokens = tokens(alloc, Numbers::Whole, text)?;
-    Ok(parse(alloc, &tokens)?)
+/// The script of this text, by this profile.
+pub fn script(alloc: Global, numbers: Numbers, text: &[u8]) -> Result<Script, Problem> {
+    let tokens = tokens(alloc, numbers, text)?;
+    Ok(parse(alloc, numbers, &tokens)?)
 }
 
 fn are_same(first: &[Token], second: &[Token]) -> bool {
@@ -28,8 +28,8 @@ fn are_same(first: &[Token], second: &[Token]) -> bool {
 }
 
 /// The canonical spelling of the script that these tokens spell.
-fn spelling_of(alloc: Global, tokens: &[Token]) -> Result<Vec<Token>, Problem> {
-    let script = parse(alloc, tokens)?;
+fn spelling_of(alloc: Global, numbers: Numbers, tokens: &[Token]) -> Result<Vec<Token>, Problem> {
+    let script = parse(alloc, numbers, tokens)?;
     let spelling = canon(alloc, &script);
     script.release();
     Ok(spelling?)
@@ -38,7 +38,7 @@ fn spelling_of(alloc: Global, tokens: &[Token]) -> Result<Vec<Token>, Problem> {
 /// Done where the canonical spelling of the script is parsed as a script with the same spelling.
 fn parsed_again(alloc: Global, script: &Script) -> Shown {
     let first = canon(alloc, script)?;
-    let second = spelling_of(alloc, &first)?;
+    let second = spelling_of(alloc, script.numbers(), &first)?;
     if !are_same(&first, &second) {
         return Err(Problem::TwoAnswers);
     }
@@ -46,8 +46,8 @@ fn parsed_again(alloc: Global, script: &Script) -> Shown {
 }
 
 /// Whether the text is refused, or is a script that its canonical spelling spells again.
-fn is_read_well(alloc: Global, text: &[u8]) -> bool {
-    match script(alloc, text) {
+fn is_read_well(alloc: Global, numbers: Numbers, text: &[u8]) -> bool {
+    match script(alloc, numbers, text) {
         Ok(script) => {
             let again = parsed_again(alloc, &script);
             script.release();
@@ -58,10 +58,10 @@ fn is_read_well(alloc: Global, text: &[u8]) -> bool {
     }
 }
 
-/// Reads each prefix of the text, as a script that breaks off.
-pub fn read_prefixes(alloc: Global, text: &[u8]) -> Result<(), Problem> {
+/// Reads each prefix of the text by this profile, as a script that breaks off.
+pub fn read_prefixes(alloc: Global, numbers: Numbers, text: &[u8]) -> Result<(), Problem> {
     for end in 0..=text.len() {
-        if !is_read_well(alloc, text.get(..end).unwrap_or(text)) {
+        if !is_read_well(alloc, numbers, text.get(..end).unwrap_or(text)) {
             return Err(Problem::Prefix(end));
         }
     }
@@ -129,7 +129,8 @@ fn told_of(alloc: Global, script: &Script, args: &[Arg<'_>]) -> Shown {
 
 /// The answer of the call.
 pub fn call(alloc: Global, args: &[Arg<'_>]) -> Shown {
-    let script = script(alloc, text(args, 1))?;
+    let (numbers, args) = profile(args);
+    let script = script(alloc, numbers, text(args, 1))?;
     let answer = told_of(alloc, &script, args);
     script.release();
     answer

@@ -1,16 +1,17 @@
 // Scripts in the form that runs, as they are printed.
 use crate::parses::script;
+use awk_numbers::number::Numbers;
 use awk_printer::printed;
 use awk_text::Memory;
 use awk_text::numeral::leading_digits;
-use library_calls::args::{name, text};
+use library_calls::args::{name, profile, text};
 use library_calls::problem::Problem;
 use library_calls::row::Arg;
 use library_calls::shown::Shown;
 use std::alloc::Global;
 
-fn program(alloc: Global, text: &[u8]) -> Shown {
-    let script = script(alloc, text)?;
+fn program(alloc: Global, numbers: Numbers, text: &[u8]) -> Shown {
+    let script = script(alloc, numbers, text)?;
     let printed = printed(alloc, script.program());
     script.release();
     Ok(printed?)
@@ -52,7 +53,8 @@ fn without_places(alloc: Global, mut rest: &[u8]) -> Result<Vec<u8>, Memory> {
 
 /// The answer of the call.
 pub fn call(alloc: Global, args: &[Arg<'_>]) -> Shown {
-    let program = program(alloc, text(args, 1))?;
+    let (numbers, args) = profile(args);
+    let program = program(alloc, numbers, text(args, 1))?;
     match name(args, 0) {
         "program" => Ok(program),
         "shape" => Ok(without_places(alloc, &program)?),

@@ -2,7 +2,7 @@
 
 use crate::run_log::RunLog;
 use awk_text::octets::Octets;
-use awkbox::{Driven, MemoryWorld, Setup, drive};
+use awkbox::{Driven, MemoryWorld, Numbers, Setup, drive};
 use library_calls::args::{name, number, octets, text};
 use library_calls::problem::Problem;
 use library_calls::row::Arg;
@@ -24,6 +24,7 @@ pub struct Beginning {
     names: Vec<Octets>,
     assigns: Vec<(Octets, Octets)>,
     separator: Option<Octets>,
+    numbers: Numbers,
     bound: u64,
     log: RunLog,
 }
@@ -42,6 +43,7 @@ pub fn is_start(name: &str) -> bool {
             | "operand"
             | "assign"
             | "separator"
+            | "numbers"
             | "bound"
             | "fail_write"
             | "fail_flush"
@@ -55,6 +57,15 @@ fn count(args: &[Arg<'_>]) -> Result<u32, Problem> {
     }
 }
 
+/// Which numbers a script has: the word is `whole` or `double`.
+fn numbers(args: &[Arg<'_>]) -> Result<Numbers, Problem> {
+    match name(args, 1) {
+        "whole" => Ok(Numbers::Whole),
+        "double" => Ok(Numbers::Double),
+        _ => Err(Problem::NoArgument),
+    }
+}
+
 impl Beginning {
     /// An empty world, no words of the host, the usual bound and a log that never fails.
     pub fn new(alloc: Global) -> Beginning {
@@ -64,6 +75,7 @@ impl Beginning {
             names: Vec::new(alloc),
             assigns: Vec::new(alloc),
             separator: None,
+            numbers: Numbers::Whole,
             bound: STEPS,
             log: RunLog::new(alloc),
         }
@@ -87,6 +99,7 @@ impl Beginning {
             "operand" => self.operands.push(octets(alloc, text(args, 1))?)?,
             "assign" => self.add_pair(alloc, args)?,
             "separator" => self.separator = Some(octets(alloc, text(args, 1))?),
+            "numbers" => self.numbers = numbers(args)?,
             "bound" => self.bound = u64::from(count(args)?),
             "fail_write" => self.log.bad_write = count(args)?,
             "fail_flush" => self.log.bad_flush = count(args)?,
@@ -107,9 +120,12 @@ impl Beginning {
             return Err(Problem::NoArgument);
         }
         match Setup::read(self.operands, self.names, self.assigns, self.separator) {
-            Ok(setup) => Ok(drive(
-                alloc, policy, script, &setup, self.bound, self.world, self.log,
-            )),
+            Ok(setup) => {
+                let setup = setup.numbered(self.numbers);
+                Ok(drive(
+                    alloc, policy, script, &setup, self.bound, self.world, self.log,
+                ))
+            }
             Err(_) => Err(Problem::NoSetup),
         }
     }

@@ -27,10 +27,11 @@ pub enum Table {
     Scripts,
     Streams,
     Operands,
+    Doubles,
     Embedding,
 }
 
-pub const TABLES: [Table; 15] = [
+pub const TABLES: [Table; 16] = [
     Table::Tokens,
     Table::Parses,
     Table::Programs,
@@ -45,6 +46,7 @@ pub const TABLES: [Table; 15] = [
     Table::Scripts,
     Table::Streams,
     Table::Operands,
+    Table::Doubles,
     Table::Embedding,
 ];
 
@@ -65,6 +67,7 @@ impl Subject for Table {
             Table::Scripts => "scripts.txt",
             Table::Streams => "streams.txt",
             Table::Operands => "operands.txt",
+            Table::Doubles => "doubles.txt",
             Table::Embedding => "embedding.txt",
         }
     }
@@ -98,7 +101,8 @@ impl Subject for Table {
             | Table::Choices
             | Table::Scripts
             | Table::Streams
-            | Table::Operands => runs::block(alloc, args, steps),
+            | Table::Operands
+            | Table::Doubles => runs::block(alloc, args, steps),
             _ => Err(Problem::NoCall),
         }
     }
