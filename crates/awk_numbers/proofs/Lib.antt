@@ -18,3 +18,4 @@ pub mod SixDigits
 pub mod WholeTexts
 pub mod WholePowers
 pub mod PowerLaws
+pub mod Drawing

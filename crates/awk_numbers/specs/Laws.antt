@@ -1,6 +1,6 @@
 -- The laws of the two profiles.
-use Rattle.std.specs.Prelude.{ℕ, ◌≡◌, ◌^◌, ◌≤◌, ℤ, pos, int_rem, unsigned_abs, Result, Ok}
-use Rattle.std.specs.declared.cmp.Ordering.TheVariants.{Equal}
+use Rattle.std.specs.Prelude.{ℕ, ◌≡◌, ◌≢◌, ◌^◌, ◌≤◌, ℤ, pos, int_rem, unsigned_abs, Result, Ok}
+use Rattle.std.specs.declared.cmp.Ordering.TheVariants.{Less, Equal}
 use Rattle.awk_numbers.specs.declared.number.Number.{Number}
 use Rattle.awk_numbers.specs.declared.number.Number.TheVariants.{Whole}
 use Rattle.awk_numbers.specs.declared.number.Numbers.{Numbers}
@@ -43,3 +43,8 @@ NegClosed = (numbers : Numbers) (x z : Number) → IsNumber numbers x → neg nu
 -- equal numbers are one value
 abbrev pub OneValue : Numbers → Type 0
 OneValue numbers = (x y : Number) → IsNumber numbers x → IsNumber numbers y → order x y ≡ Equal → x ≡ y
+
+-- a number from 0 to below 1
+abbrev pub IsFraction : Number → Type 0
+IsFraction x =
+    IsNumber profile.Double x × (order x (Whole (pos 0)) ≢ Less) × (order x (Whole (pos 1)) ≡ Less)
