@@ -19,3 +19,4 @@ pub mod WholeTexts
 pub mod WholePowers
 pub mod PowerLaws
 pub mod Drawing
+pub mod Turns
