@@ -5,6 +5,7 @@ use Rattle.std.specs.Fmt.{decimal}
 use Rattle.std.specs.List.{filter, list_any}
 use Rattle.std.specs.Map.{lookup}
 use Rattle.std.specs.Str.{bytes_eq}
+use Rattle.awk_numbers.specs.Random.{first_random}
 use Rattle.awk_text.specs.declared.value.Value.{Value}
 use Rattle.awk_text.specs.declared.value.Value.TheVariants as v
 use Rattle.awk_text.specs.Escapes.{unescaped}
@@ -49,6 +50,7 @@ nothing = record { events = []; used = 0 }
 abbrev pub first_state : Given → State
 first_state g = record {
   numbers = g.numbers;
+  random = first_random g.seed;
   values = values_at_start g.program;
   arrays = arrays_at_start g.program;
   locals = [];

@@ -1,14 +1,20 @@
 -- Calls of the built-in functions (POSIX.1-2017 XCU awk, "Functions"): the arguments from left to right, and then what
 -- the function gives.
 use Rattle.std.specs.Prelude.{ℕ, ℤ, ◌+◌, ◌-◌, nat_le, Bool, true, false, if◌then◌else◌, negsuc, List, [], ◌∷◌, length}
-use Rattle.std.specs.Prelude.{drop, get_or, codes, Option, Some, None, Result, Ok}
+use Rattle.std.specs.Prelude.{drop, get_or, codes, Option, Some, None, Result, Ok, Err}
+use Rattle.awk_numbers.specs.declared.number.Number.{Number}
+use Rattle.awk_numbers.specs.declared.number.NumberFault.{NumberFault}
 use Rattle.awk_numbers.specs.declared.number.Numbers.{Numbers}
+use Rattle.awk_numbers.specs.declared.random.Random.{Random}
+use Rattle.awk_numbers.specs.Functions.{arc_tangent, cosine, exponential, logarithm, sine, square_root}
+use Rattle.awk_numbers.specs.Random.{advanced, drawn, reseeded, seed_of}
 use Rattle.awk_text.specs.declared.place.Place.{Place}
 use Rattle.awk_text.specs.declared.value.Value.{Value}
 use Rattle.awk_text.specs.declared.value.Value.TheVariants as v
 use Rattle.awk_text.specs.declared.fault.Fault.{Fault}
 use Rattle.awk_text.specs.declared.fault.Fault.TheVariants.{TooManyElements}
 use Rattle.awk_text.specs.Arithmetic.{clamped, truncated}
+use Rattle.awk_text.specs.Faults.{or_fault}
 use Rattle.awk_text.specs.Values.{text_of, number_of, of_number}
 use Rattle.awk_fields.specs.Separators.{separator, ere}
 use Rattle.awk_format.specs.Directives.{◌>>=◌}
@@ -50,6 +56,20 @@ text_at vs n = text_of (argument vs n)
 abbrev pub whole_number : Numbers → Value → Result Value Fault
 whole_number numbers x = number_of numbers x >>= λ n. truncated n >>= λ m. Ok (of_number m)
 
+-- what a function of one number gives for the number of a value, or the fault
+abbrev pub of_one : (Number → Result Number NumberFault) → Numbers → Value → Result Value Fault
+of_one f numbers x = number_of numbers x >>= λ n. or_fault (f n) >>= λ z. Ok (of_number z)
+
+-- and one of two numbers for those of two values, of which the first is read first
+abbrev pub of_two : (Number → Number → Result Number NumberFault) → Numbers → Value → Value → Result Value Fault
+of_two f numbers x y =
+    number_of numbers x >>= λ m. number_of numbers y >>= λ n. or_fault (f m n) >>= λ z. Ok (of_number z)
+
+-- what srand seeds by, where it has an argument
+abbrev pub seed_in : Numbers → List Value → Result (Option Number) Fault
+seed_in numbers [] = Ok None
+seed_in numbers (x ∷ vs) = number_of numbers x >>= λ n. Ok (Some n)
+
 -- so many bytes, where a count is given
 abbrev pub count_of : Numbers → List Value → Result (Option ℤ) Fault
 count_of numbers [] = Ok None
@@ -70,30 +90,53 @@ formatted_by numbers vs = formatted numbers (text_of (first vs)) (drop 1 vs)
 abbrev pub formatted_text : Numbers → List Value → Result Value Fault
 formatted_text numbers vs = formatted_by numbers vs >>= λ text. Ok (v.Text text)
 
--- ---- what each function comes to, one line a function: a value or its fault, or a task that gives the value
+-- ---- what each function comes to, one line a function: a value or its fault, a task that gives the value, or a value
+-- and the sequence of random numbers behind it
 
 pub data Effect : Type 0 where
   Gives : Result Value Fault → Effect
   Leaves : Task → Effect
+  Turns : Value → Random → Effect
 
 abbrev pub gives : Value → Effect
 gives x = Gives (Ok x)
 
+-- the next number of the sequence
+abbrev pub draws : Random → Effect
+draws random = Turns (of_number (drawn random)) (advanced random)
+
+-- the seed before; where the number to seed by is out of range, the sequence stays
+abbrev pub seeds : Result (Option Number) Fault → Random → Effect
+seeds (Ok seed) random = Turns (of_number (seed_of random)) (reseeded seed random)
+seeds (Err fault) random = Gives (Err fault)
+
 abbrev pub effect : Place → Builtin → List Value → State → Effect
+effect place b.Atan2 vs s = Gives (of_two arc_tangent s.numbers (argument vs 0) (argument vs 1))
 effect place b.Close vs s = Leaves (Close place (text_at vs 0) None)
+effect place b.Cos vs s = Gives (of_one cosine s.numbers (argument vs 0))
+effect place b.Exp vs s = Gives (of_one exponential s.numbers (argument vs 0))
 effect place b.Fflush vs s = gives (flush (text_at vs 0) (open_streams s.course.events))
 effect place b.Index vs s = gives (of_count (index (text_at vs 0) (text_at vs 1)))
 effect place b.Int vs s = Gives (whole_number s.numbers (argument vs 0))
 effect place b.Length vs s = gives (of_count (length (text_at vs 0)))
+effect place b.Log vs s = Gives (of_one logarithm s.numbers (argument vs 0))
+effect place b.Rand vs s = draws s.random
+effect place b.Sin vs s = Gives (of_one sine s.numbers (argument vs 0))
 effect place b.Sprintf vs s = Gives (formatted_text s.numbers vs)
+effect place b.Sqrt vs s = Gives (of_one square_root s.numbers (argument vs 0))
+effect place b.Srand vs s = seeds (seed_in s.numbers vs) s.random
 effect place b.Substr vs s = Gives (substr_of s.numbers vs)
 effect place b.System vs s = Leaves (Run place (text_at vs 0))
 effect place b.Tolower vs s = gives (v.Text (to_case false (text_at vs 0)))
 effect place b.Toupper vs s = gives (v.Text (to_case true (text_at vs 0)))
 
+abbrev pub with_random : Random → State → State
+with_random random s = record s { random = random }
+
 abbrev pub taking : Place → Effect → Then
 taking place (Gives made) k s = deliver place made k s
 taking place (Leaves task) k s = Goes (Do task ∷ k) s
+taking place (Turns x random) k s = Goes (give x k) (with_random random s)
 
 abbrev pub called : Place → Builtin → List Value → Then
 called place which vs k s = taking place (effect place which vs s) k s

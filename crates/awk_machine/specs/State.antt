@@ -1,7 +1,9 @@
 -- What plain awk holds while a script runs (POSIX.1-2017 XCU awk, "Variables and Special Variables", "Expressions in
 -- awk", "User-Defined Functions").
 use Rattle.std.specs.Prelude.{ℕ, Bool, List, Option}
+use Rattle.awk_numbers.specs.declared.number.Number.{Number}
 use Rattle.awk_numbers.specs.declared.number.Numbers.{Numbers}
+use Rattle.awk_numbers.specs.declared.random.Random.{Random}
 use Rattle.awk_text.specs.declared.value.Value.{Value}
 use Rattle.awk_fields.specs.Rows.{Row}
 use Rattle.box_world.specs.Events.{Event, Key}
@@ -55,6 +57,8 @@ pub record Course : Type 0 where
 pub record State : Type 0 where
   -- which numbers the script has
   pub numbers : Numbers
+  -- the sequence that rand draws from
+  pub random : Random
   -- the variables and the arrays of the whole script by their names; there are no others
   pub values : Text → Option Value
   pub arrays : Text → Option Array
@@ -79,6 +83,8 @@ pub record Given : Type 0 where
   pub program : Program
   -- which numbers the script has
   pub numbers : Numbers
+  -- what `srand ( )` seeds by
+  pub seed : Number
   -- whether an operand or the host may set a variable of this name
   pub can_assign : Text → Bool
   -- whether the script names ENVIRON
