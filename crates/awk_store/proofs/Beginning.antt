@@ -89,8 +89,7 @@ arrays_begin (n ∷ ns) x once = array_begins n ns x once (arrays_begin ns x (of
 
 pub begins : BeginsSo
 begins g once =
-    ap (λ vs. record (state (texts_of g.program.variables) (first_kept g.numbers g.program.variables) first_hidden) {
-      values =
-          vs;
-    }) (fun_ext (λ x. values_begin g.program.variables x once))
-    ∙ ap (λ as_. record (first_state g) { arrays = as_ }) (fun_ext (λ x. arrays_begin g.program.variables x once))
+    let names = g.program.variables in
+    ap (λ vs. record (state (texts_of names) (first_kept g.numbers g.seed names) first_hidden) { values = vs })
+    (fun_ext (λ x. values_begin names x once))
+    ∙ ap (λ as_. record (first_state g) { arrays = as_ }) (fun_ext (λ x. arrays_begin names x once))

@@ -5,6 +5,8 @@ use Rattle.std.specs.Prelude.{None, Result}
 use Rattle.awk_numbers.specs.declared.number.Number.{Number}
 use Rattle.awk_numbers.specs.declared.number.Number.TheVariants.{Whole}
 use Rattle.awk_numbers.specs.declared.number.Numbers.{Numbers}
+use Rattle.awk_numbers.specs.declared.random.Random.{Random}
+use Rattle.awk_numbers.specs.Random.{first_random}
 use Rattle.awk_text.specs.declared.value.Value.{Value}
 use Rattle.awk_text.specs.declared.value.Value.TheVariants as v
 use Rattle.awk_text.specs.declared.fault.Fault.{Fault}
@@ -42,9 +44,10 @@ first_cell x = if x.is_array then cell.Array [] else cell.Value (first_value x.t
 abbrev pub first_main : Main
 first_main = record { position = 1; current = None; named = false; ended = false; failed = false }
 
-abbrev pub first_kept : Numbers → List GlobalName → Kept
-first_kept numbers names = record {
+abbrev pub first_kept : Numbers → Number → List GlobalName → Kept
+first_kept numbers setup names = record {
   numbers = numbers;
+  random = first_random setup;
   cells = map first_cell names;
   frame = [];
   depth = 0;
@@ -143,6 +146,9 @@ row_of kept text =
     record { whole = text; fields = unsplit (separator (own_text kept own.Fs) (is_empty (own_text kept own.Rs))) }
 
 -- ---- the run
+
+abbrev pub with_random : Random → Kept → Kept
+with_random random kept = record kept { random = random }
 
 abbrev pub with_phase : Phase → Kept → Kept
 with_phase phase kept = record kept { phase = phase }

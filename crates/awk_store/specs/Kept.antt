@@ -2,6 +2,7 @@
 -- call by their places, the record, and how far the run is.
 use Rattle.std.specs.Prelude.{ℕ, ◌==◌, Bool, false, List, [], Option, Some, None, unwrap_or, slice_get}
 use Rattle.awk_numbers.specs.declared.number.Numbers.{Numbers}
+use Rattle.awk_numbers.specs.declared.random.Random.{Random}
 use Rattle.awk_text.specs.declared.value.Value.{Value}
 use Rattle.awk_text.specs.declared.value.Value.TheVariants as v
 use Rattle.awk_text.specs.Values.{text_of}
@@ -23,6 +24,8 @@ use Rattle.awk_store.specs.declared.phase.Phase.{Phase}
 pub record Kept : Type 0 where
   -- which numbers the script has
   pub numbers : Numbers
+  -- the sequence that rand draws from
+  pub random : Random
   -- the variables of the whole script
   pub cells : List Cell
   -- the parameters of the present call, how deep it is, and the arrays that calls have made

@@ -1,6 +1,7 @@
 -- What a store does is what the machine does: what is read of it is what the machine reads of its state, and each
 -- change of it is the machine's own.
 use Rattle.std.specs.Prelude.{◌≡◌, ◌+◌, ◌-◌, ℕ, Bool, List, [], ◌++◌, length, map, take, Some}
+use Rattle.awk_numbers.specs.declared.random.Random.{Random}
 use Rattle.awk_text.specs.declared.value.Value.{Value}
 use Rattle.awk_fields.specs.Rows.{Row, known}
 use Rattle.awk_program.specs.Slots.{Text, name_of}
@@ -9,6 +10,7 @@ use Rattle.awk_program.specs.declared.program.GlobalName.{GlobalName}
 use Rattle.awk_program.specs.declared.variables.Own.{Own}
 use Rattle.awk_program.specs.declared.variables.Variable.{Variable}
 use Rattle.awk_machine.specs.Begins.{first_state}
+use Rattle.awk_machine.specs.Builtins as builtins
 use Rattle.awk_machine.specs.Calls as calls
 use Rattle.awk_machine.specs.MainInput as main_input
 use Rattle.awk_machine.specs.Rules as rules
@@ -109,6 +111,10 @@ abbrev pub SetsMain : Type 0
 SetsMain = (names : List Text) (k : Kept) (hidden : Hidden) (main : Main) →
     main_input.with_main main (state names k hidden) ≡ state names (changes.with_main main k) hidden
 
+abbrev pub SetsRandom : Type 0
+SetsRandom = (names : List Text) (k : Kept) (hidden : Hidden) (random : Random) →
+    builtins.with_random random (state names k hidden) ≡ state names (changes.with_random random k) hidden
+
 abbrev pub SetsPhase : Type 0
 SetsPhase = (names : List Text) (k : Kept) (hidden : Hidden) (phase : Phase) →
     record (state names k hidden) { phase = phase_of phase } ≡ state names (changes.with_phase phase k) hidden
@@ -133,4 +139,5 @@ texts_of names = map (λ n. n.text) names
 
 abbrev pub BeginsSo : Type 0
 BeginsSo = (g : Given) → IsOnce (texts_of g.program.variables) →
-    state (texts_of g.program.variables) (changes.first_kept g.numbers g.program.variables) first_hidden ≡ first_state g
+    state (texts_of g.program.variables) (changes.first_kept g.numbers g.seed g.program.variables) first_hidden
+    ≡ first_state g

@@ -54,6 +54,7 @@ pub record Hidden : Type 0 where
 abbrev pub state : List Text → Kept → Hidden → State
 state names kept hidden = record {
   numbers = kept.numbers;
+  random = kept.random;
   values = values_of names kept.cells;
   arrays = arrays_of names kept.cells;
   locals = map (bound_of names) kept.frame;

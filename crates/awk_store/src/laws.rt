@@ -1,8 +1,8 @@
 // Laws of the definitions. The functions do nothing: each has a law as its contract.
 ghost use Rattle.awk_store.specs.Laws.{BeginsSo, Changes, Enters, KeepsCount, KeepsState, Leaves, Reads, ReadsArray};
 ghost use Rattle.awk_store.specs.Laws.{ReadsArrayAt, ReadsOwn, ReadsReference, ReadsText, ReadsVariable, SetsArray};
-ghost use Rattle.awk_store.specs.Laws.{SetsArrayAt, SetsMain, SetsOwn, SetsPhase, SetsStatus, SetsVariable, TellsNf};
-ghost use Rattle.awk_store.specs.Laws.{TurnsOn, Unwinds};
+ghost use Rattle.awk_store.specs.Laws.{SetsArrayAt, SetsMain, SetsOwn, SetsPhase, SetsRandom, SetsStatus, SetsVariable};
+ghost use Rattle.awk_store.specs.Laws.{TellsNf, TurnsOn, Unwinds};
 
 /// What is read of a store is what the machine reads of its state.
 pub fn reads()
@@ -35,6 +35,7 @@ pub fn calls()
 pub fn others()
     ensures on { TurnsOn }
     ensures main { SetsMain }
+    ensures random { SetsRandom }
     ensures phase { SetsPhase }
     ensures status { SetsStatus }
     ensures same { KeepsState }

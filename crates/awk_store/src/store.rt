@@ -1,7 +1,8 @@
 // What a run holds.
 ghost use Rattle.std.specs.Prelude.{◌≡◌, nat_lt, get_or, false, map, if◌then◌else◌, IfOk, OnOk, OnErr, IsOkUnless};
 ghost use Rattle.awk_store.specs.Changes.{first_cell, first_kept, stepped, with_flag, with_main, with_on, with_phase};
-ghost use Rattle.awk_store.specs.Changes.{with_status};
+ghost use Rattle.awk_store.specs.Changes.{with_random, with_status};
+ghost use Rattle.awk_numbers.specs.Random.{advanced, drawn, reseeded, seed_of};
 ghost use Rattle.awk_store.specs.Inputs.{main_of};
 
 use crate::cell::Cell;
@@ -12,7 +13,8 @@ use crate::separators::Separators;
 use awk_fields::Record;
 use awk_hash::Seed;
 use awk_lib::array::Array;
-use awk_numbers::number::Numbers;
+use awk_numbers::number::{Number, Numbers};
+use awk_numbers::random::Random;
 use awk_program::GlobalName;
 use awk_text::Memory;
 use awk_text::fault::Fault;
@@ -29,6 +31,8 @@ pub struct Store {
     pub(crate) seed: Seed,
     /// Which numbers the script has
     pub(crate) numbers: Numbers,
+    /// What `rand` draws from
+    random: Random,
     /// The variables of the whole script, by their slots
     pub(crate) cells: Vec<Cell>,
     /// The parameters of the present call
@@ -56,6 +60,7 @@ impl Model for Store {
 
     ghost view = { λ s. record {
       numbers = s.numbers;
+      random = s.random;
       cells = s.cells.items;
       frame = s.frame.items;
       depth = s.depth;
@@ -72,22 +77,24 @@ impl Model for Store {
 
 impl Store {
     /// What a run begins with, for a script with these variables and numbers of this profile. Its arrays hash by this
-    /// seed.
+    /// seed, and `srand ( )` seeds by what the setup gives.
     ///
     /// Fails with `Fault::Memory` alone, where memory is refused.
     pub fn new(
         alloc: Global,
         seed: Seed,
         numbers: Numbers,
+        setup: Number,
         names: &[GlobalName],
     ) -> Result<Store, Fault>
-        ensures ok { IfOk result (λ store. store ≡ first_kept numbers names.now) }
+        ensures ok { IfOk result (λ store. store ≡ first_kept numbers setup names.now) }
         ensures err { IsOkUnless result Fault.Memory }
     {
         Ok(Store {
             alloc,
             seed,
             numbers,
+            random: Random::new(setup),
             cells: first_cells(alloc, seed, names)?,
             frame: Vec::new(alloc),
             depth: 0,
@@ -109,6 +116,23 @@ impl Store {
         ensures { result ≡ self.now.numbers }
     {
         self.numbers
+    }
+
+    /// The next random number.
+    pub fn draw(&mut self) -> Number
+        ensures value { result ≡ drawn self.old.random }
+        ensures after { self.new ≡ with_random (advanced self.old.random) self.old }
+    {
+        self.random.draw()
+    }
+
+    /// Seeds the random numbers by a number, or where none is given by what the setup gives, and answers the seed
+    /// before.
+    pub fn reseed(&mut self, seed: Option<Number>) -> Number
+        ensures value { result ≡ seed_of self.old.random }
+        ensures after { self.new ≡ with_random (reseeded seed self.old.random) self.old }
+    {
+        self.random.reseed(seed)
     }
 
     /// The part of the program that runs.

@@ -16,3 +16,6 @@ returns-clause-status c = λ names k hidden n. refl
 
 pub returns-clause-same : goal.returns-clause-same
 returns-clause-same c = λ names k hidden row. (refl, refl)
+
+pub returns-clause-random : goal.returns-clause-random
+returns-clause-random c = λ names k hidden random. refl
