@@ -16,19 +16,23 @@ ghost use Rattle.awk_streams.specs.Chains.{Meets};
 ghost use Rattle.awk_streams.specs.Tables.{Table, open_of};
 ghost use Rattle.awk_streams.specs.Tasks.{Owns};
 ghost use Rattle.awk_text.specs.Lents.{lent_value};
-ghost use Rattle.awk_store.specs.Numbers.{valued};
 ghost use Rattle.awk_text.specs.Values.{text_of};
 ghost use Rattle.std.specs.Prelude.{Err, IfErr, IfOk, IfSome, IsOkUnless, None, Ok, drop, length, reverse, ◌≡◌};
 
 use crate::made::{number_at, owned};
+use crate::numeric::{
+    arc_tangent_of, cosine_of, exponential_of, logarithm_of, sine_of, square_root_of, srand,
+    whole_number,
+};
 use crate::printing::sprintf;
 use awk_lib::texts::{index, substr, to_case};
-use awk_numbers::number::{Number, Numbers};
+use awk_numbers::number::Numbers;
 use awk_program::Builtin;
+use awk_store::Store;
 use awk_streams::halt::Halt;
 use awk_streams::streams::Streams;
 use awk_streams::{closing, requests};
-use awk_text::arithmetic::{clamped, truncated};
+use awk_text::arithmetic::clamped;
 use awk_text::buffer::Buffer;
 use awk_text::fault::Fault;
 use awk_text::lent::Lent;
@@ -86,16 +90,6 @@ fn argument(args: &[Value], at: usize) -> Lent<'_>
         Some(value) => Lent::of(value),
         None => Lent::Unset,
     }
-}
-
-/// The number of a value without its fraction, by the profile. Takes no memory.
-///
-/// Fails with `Fault::OutOfRange` where the number is out of range.
-fn whole_number<'a>(numbers: Numbers, value: Lent<'a>) -> Result<Number, Fault>
-    ensures { valued result ≡ spec.whole_number numbers (lent_value value.entry) }
-{
-    let number = value.number(numbers)?;
-    truncated(number)
 }
 
 /// The number of the third argument without its fraction, where there is one. Takes no memory.
@@ -198,10 +192,10 @@ fn run<'a, W: World>(
 }
 
 /// What a built-in function gives for these arguments, of which those that are not there are unset, by the store's
-/// profile.
+/// profile. Of the store, only the random numbers may go on.
 pub fn called<W: World>(
     alloc: Global,
-    numbers: Numbers,
+    store: &mut Store,
     place: Place,
     which: Builtin,
     args: &[Value],
@@ -209,19 +203,30 @@ pub fn called<W: World>(
     world: &mut W,
 ) -> Result<Value, Halt>
     requires { Owns (W.open_numbers world.old) streams.old }
-    ensures task { (g : Given) (k : Kept) (xs : Expressions) → numbers ≡ k.numbers
-        → length (listed xs) ≡ length args.now
+    ensures task { (g : Given) (xs : Expressions) → length (listed xs) ≡ length args.now
         → Meets W.World (base g) (Agreeing g) used g (At (Value_of (p.builtin place which xs)) (reverse args.now)) give
-        (k, streams.old) world.old result (k, streams.new) world.new }
+        (store.old, streams.old) world.old result (store.new, streams.new) world.new }
     ensures owns { Owns (W.open_numbers world.new) streams.new }
 {
+    let numbers = store.numbers();
     match which {
+        Builtin::Atan2 => number_at(
+            place,
+            arc_tangent_of(numbers, argument(args, 0), argument(args, 1)),
+        ),
         Builtin::Close => close(place, argument(args, 0), streams, world),
+        Builtin::Cos => number_at(place, cosine_of(numbers, argument(args, 0))),
+        Builtin::Exp => number_at(place, exponential_of(numbers, argument(args, 0))),
         Builtin::Fflush => Ok(flush(argument(args, 0), streams)),
         Builtin::Index => Ok(Value::Num(index_of(argument(args, 0), argument(args, 1)))),
         Builtin::Int => number_at(place, whole_number(numbers, argument(args, 0))),
         Builtin::Length => Ok(Value::Num(text_length(argument(args, 0)))),
+        Builtin::Log => number_at(place, logarithm_of(numbers, argument(args, 0))),
+        Builtin::Rand => Ok(Value::of(store.draw())),
+        Builtin::Sin => number_at(place, sine_of(numbers, argument(args, 0))),
         Builtin::Sprintf => sprintf(alloc, numbers, place, args),
+        Builtin::Sqrt => number_at(place, square_root_of(numbers, argument(args, 0))),
+        Builtin::Srand => srand(store, place, args),
         Builtin::Substr => substr_in(alloc, numbers, place, args),
         Builtin::System => run(alloc, place, argument(args, 0), world),
         Builtin::Tolower => in_case(alloc, argument(args, 0), false),

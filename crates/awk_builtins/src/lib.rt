@@ -15,6 +15,7 @@ pub mod functions;
 pub mod keys;
 pub mod line;
 pub mod made;
+mod numeric;
 pub mod operands;
 pub mod operators;
 pub mod patterns;
