@@ -36,13 +36,7 @@ pub fn unary<W: World, E: Evaluates<W>>(
         (whole_of run.old) world.old result (whole_of run.new) world.new }
 {
     let operand = on.value(cx, x, run, world)?;
-    form.give(
-        cx.alloc,
-        run.store.numbers(),
-        operand,
-        &mut run.streams,
-        world,
-    )
+    form.give(cx.alloc, &mut run.store, operand, &mut run.streams, world)
 }
 
 /// A form of two operands.
@@ -65,7 +59,7 @@ pub fn binary<W: World, E: Evaluates<W>>(
     let right = on.value(cx, y, run, world)?;
     form.give(
         cx.alloc,
-        run.store.numbers(),
+        &mut run.store,
         left,
         right,
         &mut run.streams,
@@ -98,7 +92,7 @@ fn ternary<W: World, E: Evaluates<W>>(
     let third = on.value(cx, z, run, world)?;
     called(
         cx.alloc,
-        run.store.numbers(),
+        &mut run.store,
         place,
         which,
         &[first, second, third],
@@ -127,7 +121,7 @@ fn several<W: World, E: Evaluates<W>>(
     fill(cx, args, &mut values, on, run, world)?;
     called(
         cx.alloc,
-        run.store.numbers(),
+        &mut run.store,
         place,
         which,
         values.as_slice(),

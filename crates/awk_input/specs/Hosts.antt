@@ -4,6 +4,7 @@ use Rattle.std.specs.Prelude.{None, is_none}
 use Rattle.std.specs.List.{list_any}
 use Rattle.std.specs.Map.{lookup}
 use Rattle.std.specs.Str.{bytes_eq}
+use Rattle.awk_numbers.specs.declared.number.Number.{Number}
 use Rattle.awk_numbers.specs.declared.number.Numbers.{Numbers}
 use Rattle.awk_tokens.specs.Words.{is_name, reserved}
 use Rattle.awk_program.specs.Slots.{Text}
@@ -12,10 +13,12 @@ use Rattle.awk_store.specs.Wholes.{names_in}
 use Rattle.awk_input.specs.declared.host.HostUse.{HostUse}
 use Rattle.awk_input.specs.declared.host.HostUse.TheVariants as what
 
--- the most steps, which numbers the script has, the words that the run was started with, each once, and what names are
+-- the most steps, which numbers the script has, what `srand ( )` seeds by, the words that the run was started with,
+-- each once, and what names are
 pub record Hosted : Type 0 where
   pub bound : ℕ
   pub numbers : Numbers
+  pub seed : Number
   pub words : List Text
   pub names : List (Text × HostUse)
 
@@ -74,6 +77,7 @@ IsSlotIn names name None = list_any (bytes_eq name) names ≡ false
 pub record IsHost (h : Hosted) (g : Given) : Type 0 where
   pub bound : g.bound ≡ h.bound
   pub numbers : g.numbers ≡ h.numbers
+  pub seed : g.seed ≡ h.seed
   pub words : (text : Text) → list_any (bytes_eq text) g.operands ≡ is_given h text
   pub can_assign : (name : Text) → g.can_assign name ≡ can_set h name
   pub slots : (name : Text) → can_set h name ≡ true → IsSlotIn (names_in g) name (slot_of h name)

@@ -3,7 +3,7 @@ ghost use Rattle.std.specs.Prelude.{◌≡◌, [], OnOk, OnErr};
 ghost use Rattle.awk_input.specs.Hosts as spec;
 ghost use Rattle.awk_input.specs.Hosts.{with_name, with_word};
 
-use awk_numbers::number::Numbers;
+use awk_numbers::number::{Number, Numbers};
 use awk_text::Memory;
 use awk_text::octets::Octets;
 use awk_tokens::{is_name, reserved};
@@ -19,12 +19,13 @@ pub enum HostUse {
     Barred,
 }
 
-/// What the host of a run gave: the most steps, which numbers the script has, the words that the run was started with,
-/// and what names are to it. A look-up takes no more time where there are many.
+/// What the host of a run gave: the most steps, which numbers the script has, what `srand ( )` seeds by, the words that
+/// the run was started with, and what names are to it. A look-up takes no more time where there are many.
 #[derive(Drop)]
 pub struct Host {
     bound: u64,
     numbers: Numbers,
+    seed: Number,
     words: IndexSet<Vec<u8>>,
     names: IndexMap<Vec<u8>, HostUse>,
 }
@@ -38,6 +39,7 @@ impl Model for Host {
     ghost view = { λ h. record {
       bound = h.bound;
       numbers = h.numbers;
+      seed = h.seed;
       words = map (λ t. t.items) h.words.keys;
       names =
           map (λ e. (e.0.items, e.1)) h.names.entries;
@@ -46,12 +48,13 @@ impl Model for Host {
 
 impl Host {
     /// No word is given, and no name is known. Takes no memory.
-    pub fn new(alloc: Global, bound: u64, numbers: Numbers) -> Host
-        ensures { result ≡ record { bound = bound; numbers = numbers; words = []; names = [] } }
+    pub fn new(alloc: Global, bound: u64, numbers: Numbers, seed: Number) -> Host
+        ensures { result ≡ record { bound = bound; numbers = numbers; seed = seed; words = []; names = [] } }
     {
         Host {
             bound,
             numbers,
+            seed,
             words: IndexSet::new(alloc),
             names: IndexMap::new(alloc),
         }
@@ -69,6 +72,13 @@ impl Host {
         ensures { result ≡ self.now.numbers }
     {
         self.numbers
+    }
+
+    /// What `srand ( )` seeds by.
+    pub fn seed(&self) -> Number
+        ensures { result ≡ self.now.seed }
+    {
+        self.seed
     }
 
     /// Adds a word that the run was started with, or answers `Memory`, with nothing changed.

@@ -5,7 +5,6 @@ use Rattle.std.proofs.Common.{if◌then◌else◌, ap, sym, refl, subst, arith, 
 use Rattle.std.specs.List.{list_any}
 use Rattle.std.specs.Str.{bytes_eq}
 use Rattle.std.proofs.lemmas.Slice.Eq.{bytes_eq-Decides}
-use Rattle.awk_numbers.specs.declared.number.Numbers.{Numbers}
 use Rattle.awk_tokens.specs.Words.{is_name, reserved}
 use Rattle.awk_tree.specs.Tree.{Entry}
 use Rattle.awk_resolve.specs.Kinds as k
@@ -29,7 +28,7 @@ use Rattle.awk_input.specs.Hosts.{with_name, with_word}
 use Rattle.awk_input.specs.declared.host.HostUse.{HostUse}
 use Rattle.awk_input.specs.declared.host.HostUse.TheVariants.{Variable, Barred}
 use Rattle.awk_input.proofs.Hosting.{given_added, use_added}
-use Rattle.awk_run.specs.SetupParts.{SetupParts}
+use Rattle.awk_run.specs.SetupParts.{SetupParts, number_of_seed}
 use Rattle.awk_run.specs.Givens.{given_of}
 use Rattle.awk_run.specs.Hosting.{host_of, nothing_told, with_functions, with_variables, with_words}
 use Rattle.awk_run.proofs.Naming.{Has, AllForced, array_is_variable, function_is_defined, functions_are_forced}
@@ -54,26 +53,27 @@ words_given (x ∷ xs) h y = words_given xs (with_word x h) y ∙ ap (λ b. list
     (given_added x y h) ∙ around (list_any (bytes_eq y) xs) (bytes_eq y x) (is_given h y)
 
 words_stay : (xs : List Text) (h : Hosted) → ((with_words xs h).bound ≡ h.bound)
-    × ((with_words xs h).numbers ≡ h.numbers)
-words_stay [] h = (refl, refl)
+    × ((with_words xs h).numbers ≡ h.numbers) × ((with_words xs h).seed ≡ h.seed)
+words_stay [] h = (refl, refl, refl)
 words_stay (x ∷ xs) h = words_stay xs (with_word x h)
 
 words_names : (xs : List Text) (h : Hosted) → (with_words xs h).names ≡ h.names
 words_names [] h = refl
 words_names (x ∷ xs) h = words_names xs (with_word x h)
 
--- ---- names change neither the words, nor the bound and the numbers
+-- ---- names change neither the words, nor the bound, the numbers and the seed
 
 variables_stay : (free : Text → Bool) (n : ℕ) (xs : List Text) (h : Hosted)
     → ((with_variables free n xs h).bound ≡ h.bound) × ((with_variables free n xs h).numbers ≡ h.numbers)
-    × ((with_variables free n xs h).words ≡ h.words)
-variables_stay free n [] h = (refl, refl, refl)
+    × ((with_variables free n xs h).seed ≡ h.seed) × ((with_variables free n xs h).words ≡ h.words)
+variables_stay free n [] h = (refl, refl, refl, refl)
 variables_stay free n (x ∷ xs) h = variables_stay free (n + 1) xs (with_name x (if free x then Variable n else Barred)
     h)
 
 functions_stay : (xs : List Text) (h : Hosted) → ((with_functions xs h).bound ≡ h.bound)
-    × ((with_functions xs h).numbers ≡ h.numbers) × ((with_functions xs h).words ≡ h.words)
-functions_stay [] h = (refl, refl, refl)
+    × ((with_functions xs h).numbers ≡ h.numbers) × ((with_functions xs h).seed ≡ h.seed)
+    × ((with_functions xs h).words ≡ h.words)
+functions_stay [] h = (refl, refl, refl, refl)
 functions_stay (x ∷ xs) h = functions_stay xs (with_name x Barred h)
 
 -- ---- what it says of a name is right
@@ -275,17 +275,19 @@ barred_all parts c kinds names (x ∷ xs) (one, rest) = (by (can_assign c x) ref
     by true e = absurd (let (named, word, array, function) = (may_assign parts c x kinds).0 e in function one)
     by false e = refl
 
-nothing_right : (free : Text → Bool) (names xs : List Text) (numbers : Numbers) (steps : ℕ)
-    → Right free names (with_words xs (nothing_told numbers steps))
-nothing_right free names xs numbers steps = λ y u e. absurd (by y u (words_names xs (nothing_told numbers steps)) e)
+nothing_right : (free : Text → Bool) (names xs : List Text) (h : Hosted) → h.names ≡ []
+    → Right free names (with_words xs h)
+nothing_right free names xs h empty = λ y u e. absurd (by y u (words_names xs h ∙ empty) e)
   where
-    by : (y : Text) (u : HostUse) → (with_words xs (nothing_told numbers steps)).names ≡ []
-        → use_of (with_words xs (nothing_told numbers steps)) y ≡ Some u → ⊥
+    by : (y : Text) (u : HostUse) → (with_words xs h).names ≡ [] → use_of (with_words xs h) y ≡ Some u → ⊥
     by y u none e = let e2 = rw none at e in cc
 
 module _ (s : Script) (setup : SetupParts) (steps : ℕ) where
+  abbrev untold : Hosted
+  untold = nothing_told setup.numbers (number_of_seed setup.random_seed) steps
+
   abbrev worded : Hosted
-  worded = with_words setup.operands (nothing_told setup.numbers steps)
+  worded = with_words setup.operands untold
 
   abbrev varied : Hosted
   varied = with_variables (can_assign s.kinds) 0 (names_of s.program) worded
@@ -294,16 +296,17 @@ module _ (s : Script) (setup : SetupParts) (steps : ℕ) where
   fs = map (λ f. f.name) s.program.functions
 
   stays : ((host_of s setup steps).bound ≡ steps) × ((host_of s setup steps).numbers ≡ setup.numbers)
+      × ((host_of s setup steps).seed ≡ number_of_seed setup.random_seed)
       × ((host_of s setup steps).words ≡ worded.words)
   stays =
-      let (b, n, w) = functions_stay fs varied in
-      let (b2, n2, w2) = variables_stay (can_assign s.kinds) 0 (names_of s.program) worded in
-      let (b3, n3) = words_stay setup.operands (nothing_told setup.numbers steps) in
-      (b ∙ (b2 ∙ b3), n ∙ (n2 ∙ n3), w ∙ w2)
+      let (b, n, r, w) = functions_stay fs varied in
+      let (b2, n2, r2, w2) = variables_stay (can_assign s.kinds) 0 (names_of s.program) worded in
+      let (b3, n3, r3) = words_stay setup.operands untold in
+      (b ∙ (b2 ∙ b3), n ∙ (n2 ∙ n3), r ∙ (r2 ∙ r3), w ∙ w2)
 
   words_are : (y : Text) → list_any (bytes_eq y) setup.operands ≡ is_given (host_of s setup steps) y
-  words_are y = sym (ap (λ ws. list_any (bytes_eq y) ws) stays.2
-      ∙ (words_given setup.operands (nothing_told setup.numbers steps) y ∙ or_nothing (list_any (bytes_eq y) setup.operands)))
+  words_are y = sym (ap (λ ws. list_any (bytes_eq y) ws) stays.3
+      ∙ (words_given setup.operands untold y ∙ or_nothing (list_any (bytes_eq y) setup.operands)))
 
   names_known : (y : Text) → Has y (names_of s.program) → Knows y (host_of s setup steps)
   names_known y has = functions_keep fs varied y (variables_known (can_assign s.kinds) 0 (names_of s.program) worded y
@@ -324,7 +327,7 @@ host_is s setup steps (tokens, (items, read, of)) =
     let right : Right (can_assign s.kinds) (names_of s.program) (host_of s setup steps) =
     functions_right (can_assign s.kinds) (names_of s.program) (fs s setup steps) (varied s setup steps) barred
     (variables_right (can_assign s.kinds) (names_of s.program) [] (names_of s.program) 0 (worded s setup steps) refl
-    refl (nothing_right (can_assign s.kinds) (names_of s.program) setup.operands setup.numbers steps)) in
+    refl (nothing_right (can_assign s.kinds) (names_of s.program) setup.operands (untold s setup steps) refl)) in
     let arrays_known : (y : Text) → Forced all (global y) k.array → Knows y (host_of s setup steps) =
     λ y forced. names_known s setup steps y (subst (λ (xs : List Text). Has y xs) (sym names_are)
     (array_is_variable all (global y) k.array y refl refl forced)) in
@@ -334,6 +337,7 @@ host_is s setup steps (tokens, (items, read, of)) =
     record {
       bound = sym (stays s setup steps).0;
       numbers = sym (stays s setup steps).1;
+      seed = sym (stays s setup steps).2;
       words = words_are s setup steps;
       can_assign = may_set all s.kinds of.kinds (names_of s.program) (host_of s setup steps) right arrays_known
           functions_known_all (names_known s setup steps);

@@ -158,7 +158,7 @@ module _ (g : Given) (cx : Context) (is : IsGiven cx g) (sound : Sound (names_of
   sound_so : Sound (names_in g)
   sound_so = subst (λ ns. Sound ns) (sym names_so) sound
 
-  agrees_first : (k : Kept) (t : Table) → k ≡ first_kept g.numbers g.program.variables → t.entries ≡ []
+  agrees_first : (k : Kept) (t : Table) → k ≡ first_kept g.numbers g.seed g.program.variables → t.entries ≡ []
       → t.input ≡ record { unread = []; ended = false } → Agreeing g (k, t) first_hidden nothing
   agrees_first k t same es i = rw same (record {
     tells = tells_none t es i;
@@ -167,18 +167,19 @@ module _ (g : Given) (cx : Context) (is : IsGiven cx g) (sound : Sound (names_of
     sound = sound_so;
   })
 
-  state_first : (k : Kept) (t : Table) → k ≡ first_kept g.numbers g.program.variables
+  state_first : (k : Kept) (t : Table) → k ≡ first_kept g.numbers g.seed g.program.variables
       → seen (base g (k, t) first_hidden) nothing ≡ first_state g
   state_first k t same = ap (λ x. seen (base g (x, t) first_hidden) nothing) same ∙ ap (λ s. seen s nothing)
       (begins g sound_so.once)
 
   pub reached_first : {W : Type 0} (ghosts : Ghosts W) (w : W) → ghosts.follows w [] w → (k : Kept) (t : Table)
-      → k ≡ first_kept cx.host.now.numbers cx.program.now.variables → t.entries ≡ []
+      → k ≡ first_kept cx.host.now.numbers cx.host.now.seed cx.program.now.variables → t.entries ≡ []
       → t.input ≡ record { unread = []; ended = false } → Reached ghosts g w (first_pieces g) (k, t) w
   reached_first ghosts w none k t same es i =
-      let mine : k ≡ first_kept g.numbers g.program.variables = same
-      ∙ (ap (λ numbers. first_kept numbers cx.program.now.variables) (sym is.host.numbers)
-      ∙ ap (λ q. first_kept g.numbers q.variables) (sym is.program)) in
+      let mine : k ≡ first_kept g.numbers g.seed g.program.variables = same
+      ∙ (ap (λ numbers. first_kept numbers cx.host.now.seed cx.program.now.variables) (sym is.host.numbers)
+      ∙ (ap (λ seed. first_kept g.numbers seed cx.program.now.variables) (sym is.host.seed)
+      ∙ ap (λ q. first_kept g.numbers g.seed q.variables) (sym is.program))) in
       record {
         course = nothing;
         hidden = first_hidden;

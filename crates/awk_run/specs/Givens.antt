@@ -5,12 +5,13 @@ use Rattle.awk_resolve.specs.Assigns.{can_assign}
 use Rattle.awk_machine.specs.State.{Given}
 use Rattle.awk_parse.specs.declared.script.Script.{Script}
 use Rattle.awk_program.specs.View.{view_program}
-use Rattle.awk_run.specs.SetupParts.{SetupParts}
+use Rattle.awk_run.specs.SetupParts.{SetupParts, number_of_seed}
 
 abbrev pub given_of : Script → SetupParts → ℕ → Given
 given_of s setup steps = record {
   program = view_program s.program;
   numbers = setup.numbers;
+  seed = number_of_seed setup.random_seed;
   can_assign = can_assign s.kinds;
   names_environ = s.names_environ;
   operands = setup.operands;

@@ -78,7 +78,7 @@ fn told(alloc: Global, script: &Script, setup: &Setup, steps: u64) -> Result<Hos
     requires { IsScript script.now }
     ensures { IfOk result (λ host. host ≡ host_of script.now setup.now steps) }
 {
-    let mut host = Host::new(alloc, steps, setup.numbers());
+    let mut host = Host::new(alloc, steps, setup.numbers(), setup.random_seed());
     add_words(alloc, &mut host, setup.operands())?;
     add_variables(alloc, &mut host, script)?;
     add_functions(alloc, &mut host, script.program().functions.as_slice())?;

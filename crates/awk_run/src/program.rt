@@ -67,7 +67,8 @@ pub fn run_program<W: World>(cx: &Context<'_>, start: &Start<'_>, world: &mut W)
         → Reported W.follows W.has_stopped W.stops g world.old (view_outcome result.outcome) result.used world.new }
 {
     let names = cx.program.variables.as_slice();
-    let Ok(store) = Store::new(cx.alloc, start.seed, cx.host.numbers(), names) else {
+    let host = cx.host;
+    let Ok(store) = Store::new(cx.alloc, start.seed, host.numbers(), host.seed(), names) else {
         return Report {
             outcome: Outcome::Fault(Fault::Memory, Place { line: 0, column: 0 }),
             used: 0,

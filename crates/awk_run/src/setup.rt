@@ -1,10 +1,10 @@
 // What a run is started with.
-ghost use Rattle.awk_run.specs.SetupParts.{ascends, first_unspelled, setup_error_text};
+ghost use Rattle.awk_run.specs.SetupParts.{ascends, first_unspelled, number_of_seed, setup_error_text};
 ghost use Rattle.std.specs.Option.{option_copied};
 ghost use Rattle.std.specs.Prelude.{MatchBool, MatchOption, Some, length, ◌<◌, ◌^◌, ◌≡◌};
 
 use awk_hash::Seed;
-use awk_numbers::number::Numbers;
+use awk_numbers::number::{Number, Numbers, whole};
 use awk_text::octets::Octets;
 use awk_tokens::is_name;
 use std::cmp::Ordering;
@@ -13,8 +13,8 @@ use std::fmt;
 use std::marker::Model;
 
 /// What a run is started with: the operand words, the names of the environment that it may ask for,
-/// the pairs of `-v`, the text of `-F`, which numbers the script has, and what its tables hash by,
-/// which no answer shows.
+/// the pairs of `-v`, the text of `-F`, which numbers the script has, what `srand ( )` seeds by, and
+/// what its tables hash by, which no answer shows.
 #[derive(Drop)]
 pub struct Setup {
     operands: Vec<Octets>,
@@ -22,6 +22,7 @@ pub struct Setup {
     assigns: Vec<(Octets, Octets)>,
     separator: Option<Octets>,
     numbers: Numbers,
+    random_seed: u64,
     seed: Seed,
 }
 
@@ -36,6 +37,7 @@ impl Model for Setup {
       assigns = s.assigns.items;
       separator = s.separator;
       numbers = s.numbers;
+      random_seed = s.random_seed;
     } };
 
     // so that the number of each pair is a u32
@@ -101,7 +103,7 @@ fn ascends(names: &[Octets]) -> bool
 
 impl Setup {
     /// The setup of these words, for whole numbers (else `numbered`). Fewer than 2^32 pairs are the caller's duty. Its
-    /// tables hash by a fixed seed (`seeded`). Takes no memory.
+    /// tables hash by a fixed seed (`seeded`), and `srand ( )` seeds by 0 (else `randomized`). Takes no memory.
     ///
     /// Refused as U1 where the name of a pair is not spelled as a name, and else as U2 where the names
     /// of the environment do not ascend.
@@ -120,6 +122,7 @@ impl Setup {
               assigns = assigns.items;
               separator = separator;
               numbers = Numbers.Whole;
+              random_seed = 0;
             }))
             (result ≡ Err (record { code = 2; pair = 0 })))
             (λ pair. result ≡ Err (record { code = 1; pair = pair })) }
@@ -142,6 +145,7 @@ impl Setup {
             assigns,
             separator,
             numbers: Numbers::Whole,
+            random_seed: 0,
             seed: Seed::of(0),
         })
     }
@@ -152,6 +156,15 @@ impl Setup {
     {
         let mut setup = self;
         setup.numbers = numbers;
+        setup
+    }
+
+    /// The same setup, for a script whose `srand ( )` seeds by this number. Takes no memory.
+    pub fn randomized(self, seed: u64) -> Setup
+        ensures { result ≡ record self { random_seed = seed } }
+    {
+        let mut setup = self;
+        setup.random_seed = seed;
         setup
     }
 
@@ -170,6 +183,13 @@ impl Setup {
         ensures { result ≡ self.now.numbers }
     {
         self.numbers
+    }
+
+    /// The number that `srand ( )` seeds by. Takes no memory.
+    pub fn random_seed(&self) -> Number
+        ensures { result ≡ number_of_seed self.now.random_seed }
+    {
+        whole(self.random_seed)
     }
 
     /// What the tables of the run hash by. Takes no memory.

@@ -39,7 +39,6 @@ returns g c =
           (view (names_in m) c.args.y.now) m k _)) (c.value.ensures.plays m is) c.in_ok-left.was)
           (λ k hid d a. binary_second c.args.form (view (names_in m) c.args.x.now) (view (names_in m) c.args.y.now)
           c.in_ok-left.left m k _)) (c.value-2.ensures.plays m is) c.in_ok-right.was)
-          (c.give.ensures.task m c.value-2.new.run.store (view (names_in m) c.args.x.now)
-          (view (names_in m) c.args.y.now) c.numbers.ensures);
+          (c.give.ensures.task m (view (names_in m) c.args.x.now) (view (names_in m) c.args.y.now));
       owns = c.give.ensures.owns;
     }

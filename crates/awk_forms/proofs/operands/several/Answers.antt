@@ -31,8 +31,8 @@ returns g c =
           passes (part _ (at_once _ _ _) (filled_from _ _ c.new-values.ensures.items c.fill.ensures.plays m is part_of
           (waits_listed m part_of (map (view (names_in m)) c.args.args.now)
           (builtin.called c.args.place c.args.which) (λ vs k s. refl) (λ vs k. refl))) c.in_ok-fill.was)
-          (rw c.as_slice.ensures.value at (c.called.ensures.task m c.fill.new.run.store
-          (expressions_of (map (view (names_in m)) c.args.args.now)) c.numbers.ensures
+          (rw c.as_slice.ensures.value at (c.called.ensures.task m
+          (expressions_of (map (view (names_in m)) c.args.args.now))
           (rw c.as_slice.ensures.value (count_listed (view (names_in m)) c.args.args.now _ _
           c.new-values.ensures.items c.in_ok-fill.ensures.count))));
       owns = c.called.ensures.owns;

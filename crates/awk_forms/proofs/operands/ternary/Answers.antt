@@ -47,8 +47,7 @@ returns g c =
           (part _ (quietly (part _ (quietly (at_once _ _ _) (λ k hid d a. refl)) (c.value.ensures.plays m is)
           c.in_ok-first.was) (λ k hid d a. refl)) (c.value-2.ensures.plays m is) c.in_ok-second.was)
           (λ k hid d a. refl)) (c.value-3.ensures.plays m is) c.in_ok-third.was)
-          (c.called.ensures.task m c.value-3.new.run.store (p.more (view (names_in m) c.args.x.now)
-          (p.more (view (names_in m) c.args.y.now) (p.more (view (names_in m) c.args.z.now) p.none)))
-          c.numbers.ensures refl);
+          (c.called.ensures.task m (p.more (view (names_in m) c.args.x.now)
+          (p.more (view (names_in m) c.args.y.now) (p.more (view (names_in m) c.args.z.now) p.none))) refl);
       owns = c.called.ensures.owns;
     }

@@ -21,7 +21,7 @@ returns g c =
     record {
       plays = λ m is.
           passes (part _ (quietly (at_once _ _ _) (λ k hid d a. unary_first c.args.form (view (names_in m) c.args.x.now)
-          m k _)) (c.value.ensures.plays m is) c.in_ok-operand.was) (c.give.ensures.task m c.value.new.run.store
-          (view (names_in m) c.args.x.now) c.numbers.ensures);
+          m k _)) (c.value.ensures.plays m is) c.in_ok-operand.was) (c.give.ensures.task m
+          (view (names_in m) c.args.x.now));
       owns = c.give.ensures.owns;
     }

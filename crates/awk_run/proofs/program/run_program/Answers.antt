@@ -18,4 +18,5 @@ returns g c = λ m is start.
     (c.work-end.ensures.plays m is start c.args.world.now
     (reached_first m c.args.cx.now is c.requires g.W.World c.args.world.now
     (g.met.W.World.follows_none c.args.world.now) c.in-Ok.store c.new-2.result
-    (rw (c.as_slice-names.ensures, c.numbers.ensures) at c.in-Ok.ensures.ok) c.new-2.ensures.none c.new-2.ensures.input)))
+    (rw (c.as_slice-names.ensures, c.numbers.ensures, c.seed.ensures) at c.in-Ok.ensures.ok) c.new-2.ensures.none
+    c.new-2.ensures.input)))

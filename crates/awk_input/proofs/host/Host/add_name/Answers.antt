@@ -7,6 +7,7 @@ returns-clause-ok c = rw (← c.self.view_is, ← c.in_ok-bytes.ensures)
     (names_so (record {
       bound = c.self.inside.bound;
       numbers = c.self.inside.numbers;
+      seed = c.self.inside.seed;
       words = map (λ t. t.items) c.self.inside.words.keys;
       names =
           map (λ e. (e.0.items, e.1)) c.self.inside.names.entries;
