@@ -5,7 +5,7 @@ use Rattle.awk_machine.specs.Pieces.{Outcome}
 use Rattle.awk_machine.specs.State.{Given}
 use Rattle.awk_parse.specs.declared.script.Script.{Script}
 use Rattle.awk_run.specs.Givens.{given_of}
-use Rattle.awk_run.specs.SetupParts.{SetupParts}
+use Rattle.awk_run.specs.SetupParts.{SetupParts, number_of_seed}
 use Rattle.box_monitor.specs.Lines.{log_text}
 use Rattle.box_monitor.specs.Passed.{passed_on, told_of}
 use Rattle.box_policy.specs.Rulebook.{Rulebook}
@@ -43,6 +43,7 @@ same_given : (s r : Script) (setup : SetupParts) (steps : ℕ) → SameScript s 
 same_given s r setup steps x = λ i. record {
   program = x.program i;
   numbers = setup.numbers;
+  seed = number_of_seed setup.random_seed;
   can_assign = λ name. x.assigns name i;
   names_environ = x.environ i;
   operands = setup.operands;

@@ -1,9 +1,12 @@
 -- Expressions: each form keeps what is listed, and asks for what is covered.
 use Rattle.std.proofs.Common.{◌≡◌, ◌∙◌, ℕ, Bool, true, false, List, [], ◌∷◌, ◌++◌, length, refl, sym, ap, subst, arith}
-use Rattle.std.specs.Prelude.{◌≤◌, Option, Some, None, if◌then◌else◌, slice_get, reverse, codes, nat_lt}
+use Rattle.std.specs.Prelude.{◌≤◌, Option, Some, None, if◌then◌else◌, slice_get, reverse, codes, nat_lt, Result, Ok}
+use Rattle.std.specs.Prelude.{Err}
 use Rattle.std.proofs.lemmas.List.{reverse-append, length-reverse}
 use Rattle.std.specs.Str.{bytes_eq}
 use Rattle.awk_numbers.specs.declared.number.Number.{Number}
+use Rattle.awk_numbers.specs.declared.random.Random.{Random}
+use Rattle.awk_text.specs.declared.fault.Fault.{Fault}
 use Rattle.awk_text.specs.declared.place.Place.{Place}
 use Rattle.awk_text.specs.declared.value.Value.{Value}
 use Rattle.awk_text.specs.declared.value.Value.TheVariants as v
@@ -137,11 +140,17 @@ module _ (S : Listed) where
   abbrev Fits : built.Effect → Type 0
   Fits (built.Gives made) = Unit {0}
   Fits (built.Leaves task) = Fit S task × (done_by task ≡ hands None)
+  Fits (built.Turns x random) = Unit {0}
+
+  seeding : (seed : Result (Option Number) Fault) (random : Random) → Fits (built.seeds seed random)
+  seeding (Ok seed) random = tt
+  seeding (Err fault) random = tt
 
   fitting : (place : Place) (which : Builtin) (xs : Expressions) (vs : List Value) (t : State)
       → Sub S (s.asked place which xs) → Says (s.first_constant xs) (built.argument vs 0)
       → Fits (built.effect place which vs t)
   fitting place b.Close xs vs t h says = (tt, refl)
+  fitting place b.Srand xs vs t h says = seeding (built.seed_in t.numbers vs) t.random
   fitting place b.System xs vs t h says = (
     at_site S place Run (s.first_constant xs) (built.text_at vs 0) h
         (has_text (s.first_constant xs) (built.argument vs 0) says),
@@ -153,6 +162,7 @@ module _ (S : Listed) where
       → Keeps S (built.taking place e k t)
   taken place (built.Gives made) k t h rest = delivered S place made k t rest
   taken place (built.Leaves task) k t h rest = (h.0, subst (λ d. Stack S d k) (sym h.1) rest)
+  taken place (built.Turns x random) k t h rest = hand S None x k tt rest
 
   comes : (place : Place) (which : Builtin) (xs : Expressions) (o : Option Expression) (vs : List Value)
       (k : List Piece) (t : State) → slice_get (listed xs) (length vs) ≡ o → Perhaps (λ x. Sub S (s.value x)) o →

@@ -13,6 +13,7 @@ use Rattle.box_world.specs.declared.ask.Reply.{Reply}
 use Rattle.box_world.specs.declared.ask.Reply.TheVariants as reply
 use Rattle.awk_machine.specs.Pieces.{Outcome, Status, Faulted, Cut}
 use Rattle.awk_machine.specs.State.{Given}
+use Rattle.awk_numbers.specs.declared.number.Number.TheVariants as number
 use Rattle.awk_numbers.specs.declared.number.Numbers.TheVariants.{Whole}
 use Rattle.row_calls.proofs.Playing.{replayed}
 use Rattle.row_calls.proofs.Scripts.{program_of, rules}
@@ -24,6 +25,7 @@ abbrev given : List (Text × Text) → List Text → Bool → List Text → List
 given arrays names environ operands environment assigns separator bound source = record {
   program = program_of arrays source;
   numbers = Whole;
+  seed = number.Whole (pos 0);
   can_assign = λ name. list_any (bytes_eq name) names;
   names_environ = environ;
   operands = operands;
