@@ -34,6 +34,10 @@ abbrev Fits : List Token → Type 0
 Fits [] = Unit {0}
 Fits (t ∷ ts) = Fine t × Fits ts
 
+infixr 10 ◌also◌
+abbrev ◌also◌ : {A B : Type 0} → A → B → A × B
+p also q = (p, q)
+
 fine : (k : Terminal) (t : Token) → is k w.Refused ≡ false → terminal t ≡ k → Fine t
 fine k t other h e = true≢false (sym (ap (λ (v : Terminal). is v w.Refused) (sym h ∙ e)) ∙ other)
 
@@ -67,7 +71,8 @@ gap (t ∷ gs) h = (either t h.0, gap gs h.1)
 
 names : (us : List Token) (ms : List Member) (rest : List Token) → g.Names us ms rest → Fits us
 names _ _ _ (g.no_name rest) = tt
-names _ _ _ (g.one_name t u vs ms rest h i k) = (fine w.In t refl h, fine w.Name u refl i, names vs ms rest k)
+names _ _ _ (g.one_name t u vs ms rest h i k) =
+    fine w.In t refl h also fine w.Name u refl i also names vs ms rest k
 
 mutual
   spelled : (n : ℕ) (r : Rule) (us : List Token) (x : Tree) (rest : List Token) → Spells n r us x rest → Fits us
@@ -77,61 +82,40 @@ mutual
   spelled _ _ _ _ _ (g.an_lvalue n us x rest k) = spelled _ _ us _ _ k
   spelled _ _ _ _ _ (g.a_paren n o c us x rest h j _ k) =
       (fine w.OpenParen o refl h, ended us c (spelled _ _ us _ _ k) (fine w.CloseParen c refl j))
-  spelled _ _ _ _ _ (g.a_call n t o c us xs rest h i j _ k) = (
-    fine w.CallName t refl h,
-    fine w.OpenParen o refl i,
-    ended us c (arguments _ us _ _ k) (fine w.CloseParen c refl j),
-  )
+  spelled _ _ _ _ _ (g.a_call n t o c us xs rest h i j _ k) =
+      fine w.CallName t refl h also fine w.OpenParen o refl i
+      also ended us c (arguments _ us _ _ k) (fine w.CloseParen c refl j)
   spelled _ _ _ _ _ (g.a_bare_length n t rest h _) = (fine (w.Builtin b.Length) t refl h, tt)
-  spelled _ _ _ _ _ (g.a_call_of_none n which t o c rest _ h i j _) = (
-    fine (w.Builtin which) t refl h,
-    fine w.OpenParen o refl i,
-    fine w.CloseParen c refl j,
-    tt,
-  )
-  spelled _ _ _ _ _ (g.a_call_of_one n which t o c us x rest _ h i j _ k) = (
-    fine (w.Builtin which) t refl h,
-    fine w.OpenParen o refl i,
-    ended us c (spelled _ _ us _ _ k) (fine w.CloseParen c refl j),
-  )
-  spelled _ _ _ _ _ (g.a_call_of_two n which t o c us vs x y rest _ h i j _ k l) = (
-    fine (w.Builtin which) t refl h,
-    fine w.OpenParen o refl i,
-    ended (us ++ vs) c (joined us vs (spelled _ _ us _ _ k) (next _ vs _ _ l)) (fine w.CloseParen c refl j),
-  )
-  spelled _ _ _ _ _ (g.a_call_of_two_or_three n which t o c us vs ws x y z rest _ h i j _ k l m) = (
-    fine (w.Builtin which) t refl h,
-    fine w.OpenParen o refl i,
-    ended ((us ++ vs) ++ ws) c (joined (us ++ vs) ws (joined us vs (spelled _ _ us _ _ k) (next _ vs _ _ l))
-        (further _ ws _ _ m)) (fine w.CloseParen c refl j),
-  )
-  spelled _ _ _ _ _ (g.a_call_of_some n which t o c us xs rest _ h i j _ k) = (
-    fine (w.Builtin which) t refl h,
-    fine w.OpenParen o refl i,
-    ended us c (list _ us _ _ k) (fine w.CloseParen c refl j),
-  )
-  spelled _ _ _ _ _ (g.a_split n t o u m c us ns vs x y rest h i k l d j _ a e) = (
-    fine (w.Builtin b.Split) t refl h,
-    fine w.OpenParen o refl i,
-    ended ((us ++ u ∷ ns) ++ m ∷ vs) c (joined (us ++ u ∷ ns) (m ∷ vs) (joined us (u ∷ ns) (spelled _ _ us _ _ a) (
-      fine w.Comma u refl k,
-      newlines ns l,
-    )) (fine w.Name m refl d, further _ vs _ _ e)) (fine w.CloseParen c refl j),
-  )
-  spelled _ _ _ _ _ (g.a_substitute n all t o c us vs ws x y z rest h i j _ k l m) = (
-    fine (w.Builtin (substituting all)) t refl h,
-    fine w.OpenParen o refl i,
-    ended ((us ++ vs) ++ ws) c (joined (us ++ vs) ws (joined us vs (spelled _ _ us _ _ k) (next _ vs _ _ l))
-        (into _ ws _ _ m)) (fine w.CloseParen c refl j),
-  )
+  spelled _ _ _ _ _ (g.a_call_of_none n which t o c rest _ h i j _) =
+      fine (w.Builtin which) t refl h also fine w.OpenParen o refl i also fine w.CloseParen c refl j also tt
+  spelled _ _ _ _ _ (g.a_call_of_one n which t o c us x rest _ h i j _ k) =
+      fine (w.Builtin which) t refl h also fine w.OpenParen o refl i
+      also ended us c (spelled _ _ us _ _ k) (fine w.CloseParen c refl j)
+  spelled _ _ _ _ _ (g.a_call_of_two n which t o c us vs x y rest _ h i j _ k l) =
+      fine (w.Builtin which) t refl h also fine w.OpenParen o refl i
+      also ended (us ++ vs) c (joined us vs (spelled _ _ us _ _ k) (next _ vs _ _ l)) (fine w.CloseParen c refl j)
+  spelled _ _ _ _ _ (g.a_call_of_two_or_three n which t o c us vs ws x y z rest _ h i j _ k l m) =
+      fine (w.Builtin which) t refl h also fine w.OpenParen o refl i
+      also ended ((us ++ vs) ++ ws) c (joined (us ++ vs) ws (joined us vs (spelled _ _ us _ _ k) (next _ vs _ _ l))
+      (further _ ws _ _ m)) (fine w.CloseParen c refl j)
+  spelled _ _ _ _ _ (g.a_call_of_some n which t o c us xs rest _ h i j _ k) =
+      fine (w.Builtin which) t refl h also fine w.OpenParen o refl i
+      also ended us c (list _ us _ _ k) (fine w.CloseParen c refl j)
+  spelled _ _ _ _ _ (g.a_split n t o u m c us ns vs x y rest h i k l d j _ a e) =
+      fine (w.Builtin b.Split) t refl h also fine w.OpenParen o refl i
+      also ended ((us ++ u ∷ ns) ++ m ∷ vs) c (joined (us ++ u ∷ ns) (m ∷ vs)
+      (joined us (u ∷ ns) (spelled _ _ us _ _ a) (fine w.Comma u refl k also newlines ns l))
+      (fine w.Name m refl d also further _ vs _ _ e)) (fine w.CloseParen c refl j)
+  spelled _ _ _ _ _ (g.a_substitute n all t o c us vs ws x y z rest h i j _ k l m) =
+      fine (w.Builtin (substituting all)) t refl h also fine w.OpenParen o refl i
+      also ended ((us ++ vs) ++ ws) c (joined (us ++ vs) ws (joined us vs (spelled _ _ us _ _ k) (next _ vs _ _ l))
+      (into _ ws _ _ m)) (fine w.CloseParen c refl j)
   spelled _ _ _ _ _ (g.a_getline n t us vs x y rest h k l) =
       (fine w.Getline t refl h, joined us vs (target _ us _ _ k) (source _ vs _ _ l))
   spelled _ _ _ _ _ (g.a_name n t rest h _) = (fine w.Name t refl h, tt)
-  spelled _ _ _ _ _ (g.an_element n t o c us xs rest h i j _ k) = (
-    fine w.Name t refl h,
-    fine w.OpenBracket o refl i,
-    ended us c (list _ us _ _ k) (fine w.CloseBracket c refl j),
-  )
+  spelled _ _ _ _ _ (g.an_element n t o c us xs rest h i j _ k) =
+      fine w.Name t refl h also fine w.OpenBracket o refl i
+      also ended us c (list _ us _ _ k) (fine w.CloseBracket c refl j)
   spelled _ _ _ _ _ (g.a_field n t us x rest h _ k) = (fine w.Dollar t refl h, spelled _ _ us _ _ k)
   spelled _ _ _ _ _ (g.a_signed_dol n which t us x rest h _ k) = (by_some sign t which refl h, spelled _ _ us _ _ k)
   spelled _ _ _ _ _ (g.a_step_dol n which t us x rest h _ k) = (by_some step t which refl h, spelled _ _ us _ _ k)
@@ -195,7 +179,7 @@ mutual
   pipes : (n : ℕ) (us : List Token) (xs : List (Piped Tree)) (rest : List Token) → g.Pipes n us xs rest → Fits us
   pipes _ _ _ _ (g.no_pipe n rest) = tt
   pipes _ _ _ _ (g.one_pipe n t u us vs x xs rest h i k l) =
-      joined (t ∷ u ∷ us) vs (fine w.Bar t refl h, fine w.Getline u refl i, target _ us _ _ k) (pipes _ vs _ _ l)
+      joined (t ∷ u ∷ us) vs (fine w.Bar t refl h also fine w.Getline u refl i also target _ us _ _ k) (pipes _ vs _ _ l)
 
   target : (n : ℕ) (us : List Token) (x : Option Tree) (rest : List Token) → g.Target n us x rest → Fits us
   target _ _ _ _ (g.no_target n rest _ _) = tt
@@ -284,13 +268,11 @@ simple _ _ _ _ (s.a_print n t us vs xs r rest h k l) =
     (fine w.Print t refl h, joined us vs (print_list _ us _ _ k) (redirected _ vs _ _ l))
 simple _ _ _ _ (s.a_printf n t us vs xs r rest h k l) =
     (fine w.Printf t refl h, joined us vs (print_list _ us _ _ k) (redirected _ vs _ _ l))
-simple _ _ _ _ (s.a_delete_all n t m rest h i _) = (fine w.Delete t refl h, fine w.Name m refl i, tt)
-simple _ _ _ _ (s.a_delete n t m o c us xs rest h i j k _ l) = (
-  fine w.Delete t refl h,
-  fine w.Name m refl i,
-  fine w.OpenBracket o refl j,
-  ended us c (list _ us _ _ l) (fine w.CloseBracket c refl k),
-)
+simple _ _ _ _ (s.a_delete_all n t m rest h i _) =
+    fine w.Delete t refl h also fine w.Name m refl i also tt
+simple _ _ _ _ (s.a_delete n t m o c us xs rest h i j k _ l) =
+    fine w.Delete t refl h also fine w.Name m refl i also fine w.OpenBracket o refl j
+    also ended us c (list _ us _ _ l) (fine w.CloseBracket c refl k)
 simple _ _ _ _ (s.a_jump n which t rest h) = (fine (w.Jump which) t refl h, tt)
 simple _ _ _ _ (s.an_exit n t us x rest h k) = (fine w.Exit t refl h, perhaps _ us _ _ k)
 simple _ _ _ _ (s.a_return n t us x rest h k) = (fine w.Return t refl h, perhaps _ us _ _ k)
@@ -321,24 +303,14 @@ mutual
       test _ vs _ _ m,
     )) (ends ws _ o),
   )
-  statement _ _ _ _ (s.a_for n t o a e c us vs ws bs x y z q rest h i j k l _ p r v m) = (
-    fine w.For t refl h,
-    fine w.OpenParen o refl i,
-    joined ((us ++ a ∷ vs) ++ e ∷ ws) (c ∷ bs) (joined (us ++ a ∷ vs) (e ∷ ws)
-        (joined us (a ∷ vs) (perhaps _ us _ _ p) (fine w.Semicolon a refl j, perhaps _ vs _ _ r)) (
-          fine w.Semicolon e refl k,
-          perhaps _ ws _ _ v,
-        )) (fine w.CloseParen c refl l, body _ bs _ _ m),
-  )
-  statement _ _ _ _ (s.a_for_in n t o k i a c bs q rest h j l m p r _ v) = (
-    fine w.For t refl h,
-    fine w.OpenParen o refl j,
-    fine w.Name k refl l,
-    fine w.In i refl m,
-    fine w.Name a refl p,
-    fine w.CloseParen c refl r,
-    body _ bs _ _ v,
-  )
+  statement _ _ _ _ (s.a_for n t o a e c us vs ws bs x y z q rest h i j k l _ p r v m) =
+      fine w.For t refl h also fine w.OpenParen o refl i
+      also joined ((us ++ a ∷ vs) ++ e ∷ ws) (c ∷ bs) (joined (us ++ a ∷ vs) (e ∷ ws)
+      (joined us (a ∷ vs) (perhaps _ us _ _ p) (fine w.Semicolon a refl j also perhaps _ vs _ _ r))
+      (fine w.Semicolon e refl k also perhaps _ ws _ _ v)) (fine w.CloseParen c refl l also body _ bs _ _ m)
+  statement _ _ _ _ (s.a_for_in n t o k i a c bs q rest h j l m p r _ v) =
+      fine w.For t refl h also fine w.OpenParen o refl j also fine w.Name k refl l also fine w.In i refl m
+      also fine w.Name a refl p also fine w.CloseParen c refl r also body _ bs _ _ v
 
   body : (n : ℕ) (us : List Token) (x : Statement) (rest : List Token) → s.Body n us x rest → Fits us
   body _ _ _ _ (s.a_body n ns us x rest _ l k) = joined ns us (newlines ns l) (statement _ us _ _ k)
@@ -380,15 +352,10 @@ item _ _ _ (s.an_end t us xs rest h k) = (fine w.EndWord t refl h, action us _ _
 item _ _ _ (s.a_pattern us c rest k _) = pattern us _ _ k
 item _ _ _ (s.a_rule us vs c xs rest k l) = joined us vs (pattern us _ _ k) (action vs _ _ l)
 item _ _ _ (s.only_action us xs rest k) = action us _ _ k
-item _ _ _ (s.a_function t f o c us ns vs ps xs rest h i j k l m q) = (
-  fine w.Function t refl h,
-  function_name f i,
-  fine w.OpenParen o refl j,
-  joined us (c ∷ (ns ++ vs)) (params us _ _ l) (
-    fine w.CloseParen c refl k,
-    joined ns vs (newlines ns m) (action vs _ _ q),
-  ),
-)
+item _ _ _ (s.a_function t f o c us ns vs ps xs rest h i j k l m q) =
+    fine w.Function t refl h also function_name f i also fine w.OpenParen o refl j
+    also joined us (c ∷ (ns ++ vs)) (params us _ _ l)
+    (fine w.CloseParen c refl k also joined ns vs (newlines ns m) (action vs _ _ q))
 
 script : (us : List Token) (xs : List Entry) → SpellsScript us xs → Fits us
 script _ _ (s.no_items gs h) = gap gs h
