@@ -1,5 +1,5 @@
 -- No token of what is spelled is one that no line of the grammar has: a word that is kept and refused is none of them.
-use Rattle.std.proofs.Common.{◌≡◌, ◌≢◌, ℕ, suc, zero, Bool, true, false, List, [], ◌∷◌, ◌++◌, Option, Some, None}
+use Rattle.std.proofs.Common.{◌≡◌, ◌≢◌, ℕ, Bool, true, false, List, [], ◌∷◌, ◌++◌, Option, Some, None}
 use Rattle.std.proofs.Common.{refl, sym, ap, ◌∙◌, ◌⊎◌, inl, inr}
 use Rattle.std.specs.List.{All}
 use Rattle.std.proofs.lemmas.Bool.{true≢false}
@@ -10,7 +10,7 @@ use Rattle.awk_tokens.specs.declared.terminals.Terminal.{Terminal}
 use Rattle.awk_tokens.specs.declared.terminals.Terminal.TheVariants as w
 use Rattle.awk_tokens.specs.declared.words.Builtin.TheVariants as b
 use Rattle.awk_tree.specs.Looks.{sign, step, comparison, matching, assignment, is_factor_sign, is_term_sign, redirect}
-use Rattle.awk_tree.specs.Terminals.{terminal, terminal_of, is, ahead, substituting}
+use Rattle.awk_tree.specs.Terminals.{terminal, terminal_of, is, substituting}
 use Rattle.awk_tree.specs.Tree.{Tree, Statement, Condition, Entry}
 use Rattle.awk_tree.specs.declared.names.Member.{Member}
 use Rattle.awk_tree.specs.declared.names.Name.{Name}
