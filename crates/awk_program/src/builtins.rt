@@ -6,12 +6,20 @@ ghost use Rattle.awk_program.specs.Builtins.{word_of};
 /// A built-in function whose arguments are plain values. Those that take a pattern or an array have forms of their own.
 #[derive(Clone, Copy, PartialEq, Eq, Drop)]
 pub enum Builtin {
+    Atan2,
     Close,
+    Cos,
+    Exp,
     Fflush,
     Index,
     Int,
     Length,
+    Log,
+    Rand,
+    Sin,
     Sprintf,
+    Sqrt,
+    Srand,
     Substr,
     System,
     Tolower,
@@ -24,12 +32,20 @@ impl Builtin {
         ensures { result.now ≡ word_of self }
     {
         match self {
+            Builtin::Atan2 => "atan2",
             Builtin::Close => "close",
+            Builtin::Cos => "cos",
+            Builtin::Exp => "exp",
             Builtin::Fflush => "fflush",
             Builtin::Index => "index",
             Builtin::Int => "int",
             Builtin::Length => "length",
+            Builtin::Log => "log",
+            Builtin::Rand => "rand",
+            Builtin::Sin => "sin",
             Builtin::Sprintf => "sprintf",
+            Builtin::Sqrt => "sqrt",
+            Builtin::Srand => "srand",
             Builtin::Substr => "substr",
             Builtin::System => "system",
             Builtin::Tolower => "tolower",
