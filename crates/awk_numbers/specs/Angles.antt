@@ -38,7 +38,7 @@ small_cosine x y =
     let beside = less (less (bits 0x3ff0_0000_0000_0000) w) h in
     plus w (plus beside (less (times z (cosine_terms z)) (times x y)))
 
--- from 0 to a bound: rounding doesn't take a number out of there, so that this only says that there is one
+-- from 0 to a bound. No rounding was seen to reach beyond one; so it is plain that there is a result.
 unfoldable pub bounded : Float → Float → Float
 bounded most x = if le x most then (if le float_zero x then x else float_zero) else most
 

@@ -47,7 +47,7 @@ fn small_cosine(x: f64, y: f64) -> f64
 }
 
 #[tactic(auto, unfolding(crate::specs::Angles::bounded))]
-/// From 0 to a bound: rounding doesn't take a number out of there.
+/// From 0 to a bound: that there is a result is then plain, whatever rounding does.
 pub(crate) fn bounded(most: f64, x: f64) -> f64
     ensures { result ≡ bounded most x }
 {
