@@ -18,3 +18,6 @@ pub mod SixDigits
 pub mod WholeTexts
 pub mod WholePowers
 pub mod PowerLaws
+pub mod Drawing
+pub mod Turns
+pub mod Waves

@@ -5,6 +5,8 @@ use Rattle.std.specs.Float.Ieee
 use Rattle.awk_numbers.specs.declared.number.Number.{Number}
 use Rattle.awk_numbers.specs.declared.number.NumberFault.{NumberFault}
 use Rattle.awk_numbers.specs.declared.number.NumberFault.TheVariants.{OutOfRange}
+use Rattle.awk_numbers.specs.Angles as Angles
+use Rattle.awk_numbers.specs.Arcs.{angle_of}
 use Rattle.awk_numbers.specs.Formula.{natural_logarithm, natural_power}
 use Rattle.awk_numbers.specs.Numbers.{double_of, settled}
 
@@ -20,3 +22,14 @@ exponential x = settled (natural_power (double_of x))
 abbrev pub logarithm : Number → Result Number NumberFault
 logarithm x =
     if Ieee.lt float_zero (double_of x) then settled (natural_logarithm (double_of x)) else Err OutOfRange
+
+-- the sine and the cosine of an angle in radians
+abbrev pub sine : Number → Result Number NumberFault
+sine x = settled (Angles.sine (double_of x))
+
+abbrev pub cosine : Number → Result Number NumberFault
+cosine x = settled (Angles.cosine (double_of x))
+
+-- the angle of the point (x, y) from -pi to pi, in radians: 0 for (0, 0)
+abbrev pub arc_tangent : Number → Number → Result Number NumberFault
+arc_tangent y x = settled (angle_of (double_of y) (double_of x))

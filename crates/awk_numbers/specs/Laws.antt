@@ -1,11 +1,12 @@
 -- The laws of the two profiles.
-use Rattle.std.specs.Prelude.{ℕ, ◌≡◌, ◌^◌, ◌≤◌, ℤ, pos, int_rem, unsigned_abs, Result, Ok}
-use Rattle.std.specs.declared.cmp.Ordering.TheVariants.{Equal}
+use Rattle.std.specs.Prelude.{ℕ, ◌≡◌, ◌≢◌, ◌^◌, ◌≤◌, ℤ, pos, int_rem, unsigned_abs, Result, Ok}
+use Rattle.std.specs.declared.cmp.Ordering.TheVariants.{Less, Equal}
 use Rattle.awk_numbers.specs.declared.number.Number.{Number}
 use Rattle.awk_numbers.specs.declared.number.Number.TheVariants.{Whole}
 use Rattle.awk_numbers.specs.declared.number.Numbers.{Numbers}
 use Rattle.awk_numbers.specs.declared.number.Numbers.TheVariants as profile
 use Rattle.awk_numbers.specs.declared.number.NumberFault.{NumberFault}
+use Rattle.awk_numbers.specs.Functions.{arc_tangent, cosine, sine}
 use Rattle.awk_numbers.specs.Numbers.{IsNumber}
 use Rattle.awk_numbers.specs.Operators.{order, neg, div}
 use Rattle.awk_numbers.specs.Powers.{pow}
@@ -43,3 +44,19 @@ NegClosed = (numbers : Numbers) (x z : Number) → IsNumber numbers x → neg nu
 -- equal numbers are one value
 abbrev pub OneValue : Numbers → Type 0
 OneValue numbers = (x y : Number) → IsNumber numbers x → IsNumber numbers y → order x y ≡ Equal → x ≡ y
+
+-- there is a result, a number of profile double
+abbrev pub Gives : Result Number NumberFault → Type 0
+Gives result = (z : Number) × (result ≡ Ok z) × IsNumber profile.Double z
+
+-- each number has a sine and a cosine, and each point an angle
+abbrev pub Waves : Type 0
+Waves = (x : Number) → IsNumber profile.Double x → Gives (sine x) × Gives (cosine x)
+
+abbrev pub Directions : Type 0
+Directions = (y x : Number) → IsNumber profile.Double y → IsNumber profile.Double x → Gives (arc_tangent y x)
+
+-- a number from 0 to below 1
+abbrev pub IsFraction : Number → Type 0
+IsFraction x =
+    IsNumber profile.Double x × (order x (Whole (pos 0)) ≢ Less) × (order x (Whole (pos 1)) ≡ Less)

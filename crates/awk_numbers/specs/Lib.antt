@@ -13,3 +13,6 @@ pub mod Formula
 pub mod Powers
 pub mod Shown
 pub mod Random
+pub mod Quarters
+pub mod Angles
+pub mod Arcs

@@ -8,7 +8,7 @@ ghost use Rattle.awk_numbers.specs.Formula.{shifted, significand, small_power, s
 ghost use Rattle.awk_numbers.specs.Formula.{two_power, unscaled, whole_high, whole_low, within};
 
 /// The weight of a double's exponent in its bits: 2^52.
-const HIDDEN: u64 = 0x10_0000_0000_0000;
+pub(crate) const HIDDEN: u64 = 0x10_0000_0000_0000;
 
 /// 2^27 + 1: a double times this has the first half of its digits.
 const SPLITTER: f64 = 134217729.0;
@@ -29,7 +29,7 @@ const LEAST: f64 = -18446744073709551616.0;
 
 #[tactic(auto, unfolding(crate::specs::Formula::high))]
 /// The first half of the digits.
-fn high(x: f64) -> f64
+pub(crate) fn high(x: f64) -> f64
     ensures { result ≡ high x }
 {
     let product = x * SPLITTER;

@@ -1,7 +1,9 @@
 // The functions of profile double.
 ghost use Rattle.std.specs.Prelude.{◌≡◌};
-ghost use Rattle.awk_numbers.specs.Functions.{exponential, logarithm, square_root};
+ghost use Rattle.awk_numbers.specs.Functions.{arc_tangent, cosine, exponential, logarithm, sine, square_root};
 
+use crate::angles;
+use crate::arcs::angle_of;
 use crate::formula::{natural_logarithm, natural_power};
 use crate::number::{Number, NumberFault, settle};
 
@@ -35,4 +37,32 @@ pub fn logarithm(x: Number) -> Result<Number, NumberFault>
     } else {
         Err(NumberFault::OutOfRange)
     }
+}
+
+/// The sine of an angle in radians, within one unit in the last place. Takes no memory.
+///
+/// Fails with `NumberFault::OutOfRange` where `x` is no number.
+pub fn sine(x: Number) -> Result<Number, NumberFault>
+    ensures { result ≡ sine x }
+{
+    settle(angles::sine(x.to_double()))
+}
+
+/// The cosine of an angle in radians, within one unit in the last place. Takes no memory.
+///
+/// Fails with `NumberFault::OutOfRange` where `x` is no number.
+pub fn cosine(x: Number) -> Result<Number, NumberFault>
+    ensures { result ≡ cosine x }
+{
+    settle(angles::cosine(x.to_double()))
+}
+
+/// The angle of the point (x, y) from -pi to pi, in radians, within one unit in the last place: 0 for (0, 0). Takes no
+/// memory.
+///
+/// Fails with `NumberFault::OutOfRange` where `x` or `y` is no number.
+pub fn arc_tangent(y: Number, x: Number) -> Result<Number, NumberFault>
+    ensures { result ≡ arc_tangent y x }
+{
+    settle(angle_of(y.to_double(), x.to_double()))
 }

@@ -1,8 +1,10 @@
 // Numbers, and which double each of them is.
-ghost use Rattle.std.specs.Prelude.{◌≡◌, ◌≤◌, ◌^◌, ◌↔◌, IsTrue, Ok, T, unsigned_abs};
+ghost use Rattle.std.specs.Prelude.{◌≡◌, ◌≤◌, ◌^◌, ◌↔◌, pos, IsTrue, Ok, T, unsigned_abs};
+ghost use Rattle.std.specs.Float.{binary64};
+ghost use lib.Ieee.{of_int};
 ghost use Rattle.awk_numbers.specs.Numbers.{double_of, is_small, settled};
 
-use std::num::{nearest_i64_to_f64, truncating_f64_to_i64};
+use std::num::{nearest_i64_to_f64, nearest_u64_to_f64, truncating_f64_to_i64};
 
 /// Which numbers a script has: whole ones of 64 bits, or IEEE doubles.
 #[derive(Clone, Copy, Drop)]
@@ -92,4 +94,12 @@ pub fn settle(x: f64) -> Result<Number, NumberFault>
     } else {
         Err(NumberFault::OutOfRange)
     }
+}
+
+#[tactic(auto, using(crate::proofs::Drawing::nearest_is))]
+/// The number nearest to a count, a tie to the even one. Takes no memory.
+pub fn whole(n: u64) -> Number
+    ensures { Ok result ≡ settled (of_int binary64 (pos n)) }
+{
+    settle(nearest_u64_to_f64(n)).unwrap_or(Number::Whole(0))
 }
