@@ -24,7 +24,7 @@ _awkbox() {
         mapfile -t COMPREPLY < <(compgen -W 'whole double' -- "$word")
         return
         ;;
-    --log-limit | --steps | -F | -v | -e) return ;;
+    --log-limit | --steps | --seed | -F | -v | -e) return ;;
     esac
     if [ "$COMP_CWORD" -eq 1 ]; then
         mapfile -t COMPREPLY < <(compgen -W "$commands help --help --version" -- "$word")
@@ -38,7 +38,7 @@ _awkbox() {
         ;;
     esac
     case ${COMP_WORDS[1]} in
-    run) options='--policy --base --log --log-append --log-limit --audit --report -C --steps --block-buffered -F -v --numbers -f -e -E --help --' ;;
+    run) options='--policy --base --log --log-append --log-limit --audit --report -C --steps --seed --block-buffered -F -v --numbers -f -e -E --help --' ;;
     list) options='--files --json --numbers -f -e --help' ;;
     check) options='--policy --base --allow-open --json --numbers -f -e --help' ;;
     why) options='--policy --base --given read write append run env assign --help' ;;

@@ -1766,7 +1766,7 @@ a sign|BEGIN { print ) }|`)` cannot stand here: an expression comes next, or the
 a line that ends|BEGIN { x =\n}|the line ends too early: an expression comes next
 the end|BEGIN { if (|the script ends too early: an expression comes next
 a word of gawk|BEGIN { switch (x) { } }|`{` cannot stand here: `switch` is of gawk alone
-a word of fractions|BEGIN { print sin(1) }|`sin` is for numbers with fractions, and not there: an expression comes next, or the end of the statement
+a word of fractions|BEGIN { print sin(1) }|`sin` is for numbers with fractions, as --numbers double has them: an expression comes next, or the end of the statement
 two ways|BEGIN { x[1] = 1; x = 2 }|`x` is used in two ways, of these: array, variable, function
 a function|BEGIN { f(1) }|no function `f` takes these arguments: it is not there, or has fewer parameters
 a function of gawk|BEGIN { print gensub("a", "b", "g") }|`gensub` is of gawk alone: the script has no function of this name

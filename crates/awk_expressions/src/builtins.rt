@@ -18,6 +18,28 @@ use sqlite_items::{Boxed, Items};
 use std::alloc::Global;
 
 impl<F: Fn(Global, &mut Tokens<'_>, usize, Goal) -> Result<Boxed<Expr>, ParseError>> Grammar<F> {
+    /// `( )`
+    #[tactic(auto, using(awk_tree::proofs::Views::views), unfolding(awk_tree::specs::Expressions::of_none))]
+    fn of_none(
+        &self,
+        tokens: &mut Tokens<'_>,
+        place: Place,
+        which: Builtin,
+    ) -> Result<Boxed<Expr>, ParseError>
+        ensures { Reads view (spec.of_none self.now.depth (spec.expr self.now.depth) place which tokens.old) result
+            tokens.new }
+    {
+        tokens.one(Terminal::OpenParen)?;
+        if self.depth == 0 {
+            return Err(tokens.deep());
+        }
+        tokens.one(Terminal::CloseParen)?;
+        Ok(Boxed::new(
+            self.alloc,
+            Expr::Builtin(place, which, Items::new(self.alloc)),
+        )?)
+    }
+
     /// `( expr )`
     #[tactic(auto, using(awk_tree::proofs::Views::views), unfolding(awk_tree::specs::Expressions::one_argument))]
     fn one_argument(&self, tokens: &mut Tokens<'_>) -> Result<Boxed<Expr>, ParseError>
@@ -245,6 +267,7 @@ impl<F: Fn(Global, &mut Tokens<'_>, usize, Goal) -> Result<Boxed<Expr>, ParseErr
     {
         let place = tokens.any()?.place;
         match which.parameters() {
+            Parameters::Zero => self.of_none(tokens, place, which),
             Parameters::One => self.of_one(tokens, place, which),
             Parameters::AtMostOne => self.of_one_or_none(tokens, place, which),
             Parameters::Two => self.of_two(tokens, place, which),

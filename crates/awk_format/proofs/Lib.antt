@@ -1,4 +1,5 @@
 mod Flags
+mod NumberTexts
 mod Radix
 mod Signed
 mod Steps

@@ -145,14 +145,18 @@ drop-piece_length : (text : List ℕ) → is_percent (get_or text 0 0) ≡ false
 drop-piece_length [] h = refl
 drop-piece_length (b ∷ bs) h = rw h (past_rest (b ∷ bs) (tail_of (b ∷ bs)) (tail_rests (b ∷ bs)))
 
+-- what begins at a `%` with no other one behind it
+pub directive_pieces : (numbers : Numbers) (text : List ℕ) → is_percent (get_or text 0 0) ≡ false
+    → pieces numbers (0x25 ∷ text) ≡ directed (directive_of numbers text) ∷ pieces numbers (drop 1 (tail_of text))
+directive_pieces numbers text h =
+    ap (λ p. p ∷ pieces_after numbers (piece_length text) text) (directed_at numbers text h)
+    ∙ ap (λ ps. directed (directive_of numbers text) ∷ ps) (pieces_after-drop numbers (piece_length text) text
+    ∙ ap (pieces numbers) (drop-piece_length text h))
+
 pub directive_step : (numbers : Numbers) (text : List ℕ) (values : List Value) → is_percent (get_or text 0 0) ≡ false
     → made_of numbers (0x25 ∷ text) values ≡ made numbers (directed (directive_of numbers text) ∷ pieces numbers (drop 1
     (tail_of text))) values
-directive_step numbers text values h =
-    ap (λ p. made numbers (p ∷ pieces_after numbers (piece_length text) text) values) (directed_at numbers text h)
-    ∙ ap (λ ps. made numbers (directed (directive_of numbers text) ∷ ps) values) (pieces_after-drop numbers
-    (piece_length text) text
-    ∙ ap (pieces numbers) (drop-piece_length text h))
+directive_step numbers text values h = ap (λ ps. made numbers ps values) (directive_pieces numbers text h)
 
 pub converted_step : (o o' : Option (List ℕ)) (r later : Result (List ℕ) Fault) → Writes o r o'
     → completed o' later ≡ completed o (r >>= λ field. later >>= λ text. Ok (field ++ text))

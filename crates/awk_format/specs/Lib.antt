@@ -1,4 +1,5 @@
 pub mod Directives
 pub mod Fields
 pub mod Formatted
+pub mod NumberTexts
 pub mod Written

@@ -8,6 +8,7 @@ ghost use Rattle.awk_format.specs.Formatted.{completed, formatted, made_of};
 mod convert;
 mod digits;
 mod directive;
+pub mod number_texts;
 mod output;
 mod reals;
 

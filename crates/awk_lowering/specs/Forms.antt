@@ -125,12 +125,20 @@ negated true x = p.not x
 
 -- the function that runs
 abbrev pub plain_builtin : tree_builtin.Builtin → Option Builtin
+plain_builtin b.Atan2 = Some f.Atan2
 plain_builtin b.Close = Some f.Close
+plain_builtin b.Cos = Some f.Cos
+plain_builtin b.Exp = Some f.Exp
 plain_builtin b.Fflush = Some f.Fflush
 plain_builtin b.Index = Some f.Index
 plain_builtin b.Int = Some f.Int
 plain_builtin b.Length = Some f.Length
+plain_builtin b.Log = Some f.Log
+plain_builtin b.Rand = Some f.Rand
+plain_builtin b.Sin = Some f.Sin
 plain_builtin b.Sprintf = Some f.Sprintf
+plain_builtin b.Sqrt = Some f.Sqrt
+plain_builtin b.Srand = Some f.Srand
 plain_builtin b.Substr = Some f.Substr
 plain_builtin b.System = Some f.System
 plain_builtin b.Tolower = Some f.Tolower

@@ -133,12 +133,20 @@ pub fn plain_builtin(which: awk_tree::Builtin) -> Option<Builtin>
     ensures { result ≡ spec.plain_builtin which }
 {
     match which {
+        awk_tree::Builtin::Atan2 => Some(Builtin::Atan2),
         awk_tree::Builtin::Close => Some(Builtin::Close),
+        awk_tree::Builtin::Cos => Some(Builtin::Cos),
+        awk_tree::Builtin::Exp => Some(Builtin::Exp),
         awk_tree::Builtin::Fflush => Some(Builtin::Fflush),
         awk_tree::Builtin::Index => Some(Builtin::Index),
         awk_tree::Builtin::Int => Some(Builtin::Int),
         awk_tree::Builtin::Length => Some(Builtin::Length),
+        awk_tree::Builtin::Log => Some(Builtin::Log),
+        awk_tree::Builtin::Rand => Some(Builtin::Rand),
+        awk_tree::Builtin::Sin => Some(Builtin::Sin),
         awk_tree::Builtin::Sprintf => Some(Builtin::Sprintf),
+        awk_tree::Builtin::Sqrt => Some(Builtin::Sqrt),
+        awk_tree::Builtin::Srand => Some(Builtin::Srand),
         awk_tree::Builtin::Substr => Some(Builtin::Substr),
         awk_tree::Builtin::System => Some(Builtin::System),
         awk_tree::Builtin::Tolower => Some(Builtin::Tolower),

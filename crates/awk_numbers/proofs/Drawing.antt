@@ -45,7 +45,7 @@ or_zero : (b s : Bool) (q : ℕ) (x : Float) → Ok (result_unwrap_or (chosen b 
 or_zero true s q x = refl
 or_zero false s q x = refl
 
-some : (x : Float) → float_is_finite x ≡ true → Ok (result_unwrap_or (settled x) (Whole (pos 0))) ≡ settled x
+pub some : (x : Float) → float_is_finite x ≡ true → Ok (result_unwrap_or (settled x) (Whole (pos 0))) ≡ settled x
 unfolding float_is_finite
 some nan h = absurd (true≢false (sym h))
 some (inf s) h = absurd (true≢false (sym h))

@@ -20,3 +20,4 @@ pub mod WholePowers
 pub mod PowerLaws
 pub mod Drawing
 pub mod Turns
+pub mod Waves

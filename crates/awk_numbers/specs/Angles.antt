@@ -1,6 +1,6 @@
 -- Sines and cosines by one formula: of what is left of an angle beside the nearest quarter of a turn, by the
--- polynomials of fdlibm's `__kernel_sin` and `__kernel_cos`. Each operation on doubles is IEEE 754's and is rounded once,
--- and each constant stands as its bits.
+-- polynomials of fdlibm's `__kernel_sin` and `__kernel_cos`. Each operation on doubles is IEEE 754's and is rounded
+-- once, and each constant stands as its bits.
 use Rattle.std.specs.Prelude.{ℕ, ◌+◌, ◌%◌, false, nat_lt, if◌then◌else◌}
 use Rattle.std.specs.Float.{Float, float_is_finite, float_with_sign, float_zero}
 use lib.Ieee.{le, lt, neg}
@@ -38,12 +38,17 @@ small_cosine x y =
     let beside = less (less (bits 0x3ff0_0000_0000_0000) w) h in
     plus w (plus beside (less (times z (cosine_terms z)) (times x y)))
 
+-- from 0 to a bound. No rounding was seen to reach beyond one; so it is plain that there is a result.
+unfoldable pub bounded : Float → Float → Float
+bounded most x = if le x most then (if le float_zero x then x else float_zero) else most
+
 -- ---- of each angle
 -- the sine, by the eighth of a turn that the angle lies in and how far it is from the nearest quarter: in the first
 -- eighth a sine, in the next two a cosine, and so on, and in the second half below 0
 unfoldable pub by_octant : ℕ → Float → Float → Float
 by_octant o x y =
-    let size = if nat_lt 1 ((o + 1) % 4) then small_cosine x y else small_sine x y in
+    let size = bounded (bits 0x3ff0_0000_0000_0000)
+    (if nat_lt 1 ((o + 1) % 4) then small_cosine x y else small_sine x y) in
     if nat_lt 3 o then neg size else size
 
 unfoldable pub by_quarters : ℕ → ℕ → Float

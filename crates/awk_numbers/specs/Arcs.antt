@@ -1,9 +1,10 @@
 -- The angle of a point by one formula: the arc of the ratio of its sizes, by the polynomial of fdlibm's `atan`, from 0
--- or beside the arcs of 1/2 and 1, which is added to a quarter or half of a turn before it is rounded. Each operation is
--- IEEE 754's and is rounded once, and each constant stands as its bits.
+-- or beside the arcs of 1/2 and 1, which is added to a quarter or half of a turn before it is rounded. Each operation
+-- is IEEE 754's and is rounded once, and each constant stands as its bits.
 use Rattle.std.specs.Prelude.{Bool, false, ◌&&◌, if◌then◌else◌}
 use Rattle.std.specs.Float.{Float, float_with_sign, float_zero}
 use lib.Ieee.{eq, le, lt, neg}
+use Rattle.awk_numbers.specs.Angles.{bounded}
 use Rattle.awk_numbers.specs.Formula.{bits, high, less, over, plus, times}
 
 -- ---- the arc of a ratio from 0 to 1
@@ -92,5 +93,6 @@ of_sizes y x is_below =
 unfoldable pub angle_of : Float → Float → Float
 angle_of y x =
     if eq y float_zero && eq x float_zero then float_zero
-    else (let size = of_sizes (float_with_sign false y) (float_with_sign false x) (lt x float_zero) in
+    else (let size = bounded (bits 0x4009_21fb_5444_2d18)
+    (of_sizes (float_with_sign false y) (float_with_sign false x) (lt x float_zero)) in
     if lt y float_zero then neg size else size)

@@ -6,6 +6,7 @@ use Rattle.awk_numbers.specs.declared.number.Number.TheVariants.{Whole}
 use Rattle.awk_numbers.specs.declared.number.Numbers.{Numbers}
 use Rattle.awk_numbers.specs.declared.number.Numbers.TheVariants as profile
 use Rattle.awk_numbers.specs.declared.number.NumberFault.{NumberFault}
+use Rattle.awk_numbers.specs.Functions.{arc_tangent, cosine, sine}
 use Rattle.awk_numbers.specs.Numbers.{IsNumber}
 use Rattle.awk_numbers.specs.Operators.{order, neg, div}
 use Rattle.awk_numbers.specs.Powers.{pow}
@@ -43,6 +44,17 @@ NegClosed = (numbers : Numbers) (x z : Number) → IsNumber numbers x → neg nu
 -- equal numbers are one value
 abbrev pub OneValue : Numbers → Type 0
 OneValue numbers = (x y : Number) → IsNumber numbers x → IsNumber numbers y → order x y ≡ Equal → x ≡ y
+
+-- there is a result, a number of profile double
+abbrev pub Gives : Result Number NumberFault → Type 0
+Gives result = (z : Number) × (result ≡ Ok z) × IsNumber profile.Double z
+
+-- each number has a sine and a cosine, and each point an angle
+abbrev pub Waves : Type 0
+Waves = (x : Number) → IsNumber profile.Double x → Gives (sine x) × Gives (cosine x)
+
+abbrev pub Directions : Type 0
+Directions = (y x : Number) → IsNumber profile.Double y → IsNumber profile.Double x → Gives (arc_tangent y x)
 
 -- a number from 0 to below 1
 abbrev pub IsFraction : Number → Type 0

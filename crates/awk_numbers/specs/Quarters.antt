@@ -1,5 +1,6 @@
 -- An angle in quarters of a turn, which is 2 / pi times as much, modulo 4: a whole number times 2 ^ -126. But for 0 no
--- double is nearer to a whole number of quarters than 2 ^ -62 of one, so that 60 bits at least are right of what is left.
+-- double is nearer to a whole number of quarters than 2 ^ -62 of one, so that of what is left at least 60 bits are
+-- right.
 use Rattle.std.specs.Prelude.{ℕ, pos, ◌+◌, ◌-◌, ◌*◌, ◌/◌, ◌%◌, ◌^◌, ◌==◌, if◌then◌else◌, List, [], ◌∷◌}
 use Rattle.std.specs.Float.{Float, binary64}
 use lib.Ieee.{of_int, to_bits}

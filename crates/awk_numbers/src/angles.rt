@@ -1,7 +1,7 @@
 // Sines and cosines by one formula. The definition says what each function is; here each operation stands once.
 ghost use Rattle.std.specs.Prelude.{◌≡◌, ◌≤◌};
 ghost use Rattle.std.specs.Float.{NotNan};
-ghost use Rattle.awk_numbers.specs.Angles.{by_octant, by_quarters, cosine, cosine_terms, sine, sine_terms};
+ghost use Rattle.awk_numbers.specs.Angles.{bounded, by_octant, by_quarters, cosine, cosine_terms, sine, sine_terms};
 ghost use Rattle.awk_numbers.specs.Angles.{small_cosine, small_sine, turned};
 
 use crate::quarters::{angle, in_double, octant, to_quarter};
@@ -46,6 +46,18 @@ fn small_cosine(x: f64, y: f64) -> f64
     w + (beside + (z * cosine_terms(z) - x * y))
 }
 
+#[tactic(auto, unfolding(crate::specs::Angles::bounded))]
+/// From 0 to a bound: that there is a result is then plain, whatever rounding does.
+pub(crate) fn bounded(most: f64, x: f64) -> f64
+    ensures { result ≡ bounded most x }
+{
+    if x <= most {
+        if 0.0 <= x { x } else { 0.0 }
+    } else {
+        most
+    }
+}
+
 #[tactic(auto, unfolding(crate::specs::Angles::by_octant))]
 fn by_octant(o: u32, x: f64, y: f64) -> f64
     requires { o ≤ 7 }
@@ -56,6 +68,7 @@ fn by_octant(o: u32, x: f64, y: f64) -> f64
     } else {
         small_sine(x, y)
     };
+    let size = bounded(1.0, size);
     if 3 < o { -size } else { size }
 }
 

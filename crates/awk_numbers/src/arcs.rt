@@ -4,6 +4,7 @@ ghost use Rattle.awk_numbers.specs.Arcs.{added, angle_of, arc, arc_terms, beside
 ghost use Rattle.awk_numbers.specs.Arcs.{from_half, from_nothing, from_one, negative, odd_terms, of_sizes, scale};
 ghost use Rattle.awk_numbers.specs.Arcs.{to_half_turn, to_quarter_turn};
 
+use crate::angles::bounded;
 use crate::formula::high;
 
 #[tactic(auto, unfolding(crate::specs::Arcs::even_terms))]
@@ -160,6 +161,6 @@ pub(crate) fn angle_of(y: f64, x: f64) -> f64
     if y == 0.0 && x == 0.0 {
         return 0.0;
     }
-    let size = of_sizes(y.abs(), x.abs(), x < 0.0);
+    let size = bounded(3.141592653589793, of_sizes(y.abs(), x.abs(), x < 0.0));
     if y < 0.0 { -size } else { size }
 }

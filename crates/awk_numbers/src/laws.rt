@@ -1,7 +1,7 @@
 //! Laws of the two profiles. The functions do nothing: each has a law as its contract.
 
-ghost use Rattle.awk_numbers.specs.Laws.{Closed, DivRestricts, NegClosed, NegRestricts, OneValue, PowRestricts};
-ghost use Rattle.awk_numbers.specs.Laws.{IsFraction, Restricts};
+ghost use Rattle.awk_numbers.specs.Laws.{Closed, Directions, DivRestricts, IsFraction, NegClosed, NegRestricts};
+ghost use Rattle.awk_numbers.specs.Laws.{OneValue, PowRestricts, Restricts, Waves};
 ghost use Rattle.awk_numbers.specs.Operators.{add, div, mul, rem, sub};
 ghost use Rattle.awk_numbers.specs.Powers.{pow};
 ghost use Rattle.awk_numbers.specs.Random.{drawn};
@@ -40,4 +40,11 @@ pub fn one_value()
 /// What a sequence of random numbers gives is a number of profile double, from 0 to below 1.
 pub fn fractions()
     ensures { (r : Random) → IsFraction (drawn r) }
+{}
+
+/// Each number of profile double has a sine and a cosine, and each two of them are a point that has an angle: the
+/// result is a number of the profile.
+pub fn angles()
+    ensures wave { Waves }
+    ensures direction { Directions }
 {}

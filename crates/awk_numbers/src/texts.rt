@@ -11,8 +11,8 @@ use crate::fixed::is_negative;
 use crate::short::write_short;
 use arrayvec::ArrayVec;
 
-/// Whether a double has no fraction.
-fn is_integral(x: f64) -> bool
+/// Whether a double has no fraction. Takes no memory.
+pub fn is_integral(x: f64) -> bool
     ensures { result ≡ is_integral x }
 {
     x.trunc() == x

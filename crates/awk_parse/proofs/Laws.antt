@@ -3,6 +3,7 @@ use Rattle.std.proofs.Common.{◌≡◌, List, [], map, Ok, Err, refl, sym, subs
 use Rattle.std.proofs.lemmas.List.{append-nil}
 use Rattle.std.specs.List.{flat_map}
 use Rattle.awk_tokens.specs.declared.token.Token.{Token}
+use Rattle.awk_tokens.proofs.Restriction.{restricts}
 use Rattle.awk_tree.specs.declared.fault.ParseError.{ParseError}
 use Rattle.awk_tree.specs.Tree.{Entry}
 use Rattle.awk_tree.specs.Terminals.{terminal_of}
@@ -12,10 +13,11 @@ use Rattle.awk_tree.specs.Canon.{bare_statement, end, canon_entry, canon_script,
 use Rattle.awk_parse.specs.Laws.{ExpressionsAreSpelled, ExpressionsAreReadAgain, SimpleStatementsAreSpelled}
 use Rattle.awk_parse.specs.Laws.{SimpleStatementsAreReadAgain, ScriptsAreWhole, ScriptsAreSpelled, ScriptsAreReadAgain}
 use Rattle.awk_parse.specs.Laws.{ExpressionsAreRead, SimpleStatementsAreRead, ScriptsAreRead, ExpressionsHaveOneTree}
-use Rattle.awk_parse.specs.Laws.{ScriptsHaveOneTree}
+use Rattle.awk_parse.specs.Laws.{ScriptsHaveOneTree, ScriptsOfWholeAreRead}
 use Rattle.awk_parse.specs.SpellsScripts.{SpellsScript}
 use Rattle.awk_parse.proofs.Depths.{expression_again, at_depth}
 use Rattle.awk_parse.proofs.EndLaws.{with_end}
+use Rattle.awk_parse.proofs.Fitting.{none_refused}
 use Rattle.awk_parse.proofs.PrintLaws.{simple_law}
 use Rattle.awk_parse.proofs.ItemLaws.{script_law}
 use Rattle.awk_parse.proofs.Law.{done_is}
@@ -79,3 +81,6 @@ scripts_have_one_tree ts items others h k =
 pub none_spelled : (ts : List Token) (e : ParseError) → script ts ≡ Err e → (items : List Entry) → SpellsScript ts items
     → ⊥
 none_spelled ts e h items k = let read = scripts_are_read ts items k in absurd cc
+
+pub scripts_of_whole_are_read : ScriptsOfWholeAreRead
+scripts_of_whole_are_read text ts items h k = restricts text ts (none_refused ts items k) h

@@ -1,4 +1,5 @@
 pub mod TerminalLemmas
+pub mod Fitting
 pub mod Law
 pub mod Many
 pub mod Starts

@@ -66,7 +66,30 @@ replaced_is b.Sub false h = refl
 replaced_is _ all h = absurd cc
 
 module _ (n depth : ℕ) (inner : Goal → Parser Tree) (deeper : Inner n depth inner) where
-  -- ---- of some arguments, of at most one, and length
+  -- ---- of no argument, of some, of at most one, and length
+
+  none_spells : (which : Builtin) → g.takes_none (parameters which) ≡ true
+      → (us : List Token) (q : (Token × Token) × Token) (rest : List Token)
+      → Both (pair (builtin_form n depth inner deeper which) opening) (opened_form n depth inner deeper closing) us q
+      rest → Spells n rule.prim us (tree.builtin q.0.0.place which (trees_of [])) rest
+  none_spells which empty _ _ _ (both _ _ rest _ _ (both _ _ _ _ _ (this t _ h) (this o _ i)) (opens, this c _ j)) =
+      g.a_call_of_none n which t o c rest empty h i j opens
+
+  of_none_law : (which : Builtin) → g.takes_none (parameters which) ≡ true
+      → LawOn Near Near (builtin_form n depth inner deeper which) (here n rule.prim)
+      (λ t. e.of_none depth inner t.place which)
+  unfolding e.of_none
+  of_none_law which empty t ts =
+      seq_at Near Near Near (builtin_form n depth inner deeper which) opening (here n rule.prim) (one w.OpenParen)
+      (λ t _. inside depth (one w.CloseParen) >>= λ _. pure (tree.builtin t.place which (trees_of []))) t ts
+      (opening_law Near ts)
+      (λ q ts. seq_at Near Near Near (pair (builtin_form n depth inner deeper which) opening)
+      (opened_form n depth inner deeper closing) (here n rule.prim) (inside depth (one w.CloseParen))
+      (λ q _. pure (tree.builtin q.0.place which (trees_of []))) q ts
+      (opened_law n depth inner deeper Near closing (one w.CloseParen) (closing_law Near) ts)
+      (pure_on Near (pair (pair (builtin_form n depth inner deeper which) opening)
+      (opened_form n depth inner deeper closing)) (here n rule.prim) (λ q. tree.builtin q.0.0.place which (trees_of []))
+      (λ q. refl) (λ q. refl) (none_spells which empty)))
 
   list_spells : (which : Builtin) → parameters which ≡ takes.OneOrMore
       → (us : List Token) (q : ((Token × Token) × List Tree) × Token) (rest : List Token)
@@ -319,6 +342,7 @@ module _ (n depth : ℕ) (inner : Goal → Parser Tree) (deeper : Inner n depth 
   parameters_law : (which : Builtin) (how : Parameters) → parameters which ≡ how
       → LawOn Near Near (builtin_form n depth inner deeper which) (here n rule.prim)
       (λ t. e.parameters_by depth inner t.place which how)
+  parameters_law which takes.Zero is = of_none_law which (ap g.takes_none is)
   parameters_law which takes.One is = of_one_law n depth inner deeper which (ap g.takes_one is)
   parameters_law which takes.AtMostOne is = of_one_or_none_law which (ap g.takes_none is) (ap g.takes_one is)
   parameters_law which takes.Two is = of_two_law n depth inner deeper which is

@@ -277,9 +277,19 @@ module _ (n depth : ℕ) (inner : Goal → Parser Tree) (deeper : Reaches n dept
 
   of_none_reads : (place : Place) (which : Builtin) (o c : Token) (rest : List Token) → terminal o ≡ w.OpenParen
       → terminal c ≡ w.CloseParen → Opens n
+      → e.of_none depth inner place which (o ∷ (c ∷ rest)) ≡ Ok (tree.builtin place which (trees_of []), rest)
+  unfolding e.of_none
+  of_none_reads place which o c rest h j opens = rw (
+    one_reads w.OpenParen o (c ∷ rest) refl refl h,
+    deeper.opens opens,
+    one_reads w.CloseParen c rest refl refl j,
+  ) refl
+
+  of_one_absent_reads : (place : Place) (which : Builtin) (o c : Token) (rest : List Token) → terminal o ≡ w.OpenParen
+      → terminal c ≡ w.CloseParen → Opens n
       → e.of_one_or_none depth inner place which (o ∷ (c ∷ rest)) ≡ Ok (tree.builtin place which (trees_of []), rest)
   unfolding e.of_one_or_none e.one_or_none
-  of_none_reads place which o c rest h j opens = rw (
+  of_one_absent_reads place which o c rest h j opens = rw (
     one_reads w.OpenParen o (c ∷ rest) refl refl h,
     deeper.opens opens,
     ahead_is w.CloseParen c rest refl j,
@@ -305,12 +315,14 @@ module _ (n depth : ℕ) (inner : Goal → Parser Tree) (deeper : Reaches n dept
 
   -- one that may be called with nothing in its parentheses
   none_by : (which : Builtin) (place : Place) (ts : List Token) (v : Outcome Tree) → takes_none (words.parameters which)
-      ≡ true → is (ahead ts) w.OpenParen ≡ true → e.of_one_or_none depth inner place which ts ≡ v
-      → e.builtin_by depth inner place which ts ≡ v
+      ≡ true → is (ahead ts) w.OpenParen ≡ true → e.of_none depth inner place which ts ≡ v
+      → e.of_one_or_none depth inner place which ts ≡ v → e.builtin_by depth inner place which ts ≡ v
   unfolding e.length_of
-  none_by b.Length place ts v t sees h = rw sees h
-  none_by b.Fflush place ts v t sees h = h
-  none_by _ place ts v t sees h = absurd cc
+  none_by b.Length place ts v t sees h k = rw sees k
+  none_by b.Fflush place ts v t sees h k = k
+  none_by b.Srand place ts v t sees h k = k
+  none_by b.Rand place ts v t sees h k = h
+  none_by _ place ts v t sees h k = absurd cc
 
   -- one that may be called with one argument
   one_by : (which : Builtin) (place : Place) (ts : List Token) (v : Outcome Tree) → takes_one (words.parameters which)
@@ -319,8 +331,14 @@ module _ (n depth : ℕ) (inner : Goal → Parser Tree) (deeper : Reaches n dept
   unfolding e.length_of
   one_by b.Length place ts v t sees h k = rw sees k
   one_by b.Fflush place ts v t sees h k = k
+  one_by b.Srand place ts v t sees h k = k
   one_by b.Close place ts v t sees h k = h
+  one_by b.Cos place ts v t sees h k = h
+  one_by b.Exp place ts v t sees h k = h
   one_by b.Int place ts v t sees h k = h
+  one_by b.Log place ts v t sees h k = h
+  one_by b.Sin place ts v t sees h k = h
+  one_by b.Sqrt place ts v t sees h k = h
   one_by b.System place ts v t sees h k = h
   one_by b.Tolower place ts v t sees h k = h
   one_by b.Toupper place ts v t sees h k = h
@@ -511,7 +529,7 @@ module _ (n depth : ℕ) (inner : Goal → Parser Tree) (deeper : Reaches n dept
       by_builtin which t (o ∷ c ∷ rest) (Ok (tree.builtin t.place which (trees_of []), rest)) h
       (none_by which t.place (o ∷ c ∷ rest) (Ok (tree.builtin t.place which (trees_of []), rest)) takes_it
       (follows (λ k. is k w.OpenParen) w.OpenParen o (c ∷ rest) refl i)
-      (of_none_reads t.place which o c rest i j opens))
+      (of_none_reads t.place which o c rest i j opens) (of_one_absent_reads t.place which o c rest i j opens))
   prim_reads _ _ _ (g.a_call_of_one _ which t o c us x rest takes_it h i j opens s) =
       let v : Outcome Tree = Ok (tree.builtin t.place which (trees_of (x ∷ [])), rest) in
       rw (append_assoc us (c ∷ []) rest) (by_builtin which t (o ∷ (us ++ (c ∷ rest))) v h

@@ -1,5 +1,7 @@
 -- The laws that the functions of this crate state.
-use Rattle.std.specs.Prelude.{◌≡◌, Bool, List, [], ◌++◌, map, Ok}
+use Rattle.std.specs.Prelude.{◌≡◌, ℕ, Bool, List, [], ◌++◌, map, Ok}
+use Rattle.awk_numbers.specs.declared.number.Numbers.TheVariants.{Whole, Double}
+use Rattle.awk_tokens.specs.Reads.{Reads}
 use Rattle.awk_tokens.specs.declared.token.Token.{Token}
 use Rattle.awk_tokens.specs.declared.terminals.Terminal.TheVariants as w
 use Rattle.awk_tree.specs.Terminals.{ahead}
@@ -73,3 +75,10 @@ ExpressionsHaveOneTree = (in_print : Bool) (ts : List Token) (x y : Tree) → Sp
 abbrev pub ScriptsHaveOneTree : Type 0
 ScriptsHaveOneTree =
     (ts : List Token) (items others : List Entry) → SpellsScript ts items → SpellsScript ts others → items ≡ others
+
+-- ---- the two profiles of numbers
+
+-- a text that profile whole reads as a script is read as the same tokens in profile double, so as the same items
+abbrev pub ScriptsOfWholeAreRead : Type 0
+ScriptsOfWholeAreRead = (text : List ℕ) (ts : List Token) (items : List Entry) → Reads Whole text ts →
+    SpellsScript ts items → Reads Double text ts

@@ -38,6 +38,7 @@ Newlines (t ∷ ts) = (terminal t ≡ w.Newline) × Newlines ts
 
 -- what can be called with nothing in its parentheses, and what with one argument
 abbrev pub takes_none : Parameters → Bool
+takes_none takes.Zero = true
 takes_none takes.AtMostOne = true
 takes_none takes.Measured = true
 takes_none other = false
@@ -77,7 +78,7 @@ mutual
     -- | length, where no ( follows
     a_bare_length : (n : ℕ) (t : Token) (rest : List Token) → terminal t ≡ w.Builtin b.Length →
         is (ahead rest) w.OpenParen ≡ false → Spells n rule.prim (t ∷ []) (tree.bare_length t.place) rest
-    -- | a built-in function of at most one argument, as length ( )
+    -- | a built-in function of no argument, or of at most one, as rand ( ) and length ( )
     a_call_of_none : (n : ℕ) (which : Builtin) (t o c : Token) (rest : List Token) → takes_none (parameters which)
         ≡ true → terminal t ≡ w.Builtin which → terminal o ≡ w.OpenParen → terminal c ≡ w.CloseParen
         → Opens n → Spells n rule.prim (t ∷ o ∷ c ∷ []) (tree.builtin t.place which (trees_of [])) rest

@@ -8,6 +8,7 @@ ghost use Rattle.awk_parse.specs.Laws.{ExpressionsAreSpelled, ExpressionsAreRead
 ghost use Rattle.awk_parse.specs.Laws.{SimpleStatementsAreReadAgain, ScriptsAreWhole, ScriptsAreSpelled};
 ghost use Rattle.awk_parse.specs.Laws.{ScriptsAreReadAgain, ExpressionsAreRead, SimpleStatementsAreRead};
 ghost use Rattle.awk_parse.specs.Laws.{ScriptsAreRead, ExpressionsHaveOneTree, ScriptsHaveOneTree};
+ghost use Rattle.awk_parse.specs.Laws.{ScriptsOfWholeAreRead};
 
 /// Each list of tokens that the rules read as an expression is an expression by the grammar, with
 /// at most 200 levels of nesting, and its tree is the one that they spell. The canonical spelling
@@ -50,4 +51,11 @@ pub fn all_read()
 pub fn one_tree()
     ensures expressions { ExpressionsHaveOneTree }
     ensures scripts { ScriptsHaveOneTree }
+{}
+
+/// A text that profile whole reads as a script is read as the same script in profile double: as the same tokens, which
+/// spell one script at most.
+#[tactic(auto, using(crate::proofs::Laws::scripts_of_whole_are_read))]
+pub fn restriction()
+    ensures { ScriptsOfWholeAreRead }
 {}

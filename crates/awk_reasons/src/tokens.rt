@@ -44,7 +44,7 @@ pub fn cannot_stand(alloc: Global, met: Option<&Token>) -> Result<String, Memory
         TokenKind::Quoted => String::from_str(alloc, "a string cannot stand here"),
         TokenKind::Pattern => String::from_str(alloc, "a pattern cannot stand here"),
         TokenKind::Refused => format!(in alloc;
-            "`{text}` is for numbers with fractions, and not there"
+            "`{text}` is for numbers with fractions, as --numbers double has them"
         ),
         _ => format!(in alloc; "`{text}` cannot stand here"),
     }
@@ -101,6 +101,7 @@ pub fn may_follow(before: Option<&Token>) -> &'static str {
     };
     let text = shown(token);
     match token.kind {
+        TokenKind::Builtin if text != "length" => "( comes next",
         TokenKind::Keyword => follower(text).unwrap_or("; a new line or } ends the statement"),
         TokenKind::Sign if ENDS.contains(&text) => AFTER_OPERAND,
         TokenKind::Sign => follower(text).unwrap_or("an expression comes next"),

@@ -1,6 +1,6 @@
 -- The token that stands first stands first too where the text goes on with a newline.
-use Rattle.std.proofs.Common.{◌≡◌, ◌≢◌, ℕ, ◌+◌, Bool, true, false, not, ◌&&◌, ◌||◌, cond, eqb, List, [], ◌∷◌, ◌++◌}
-use Rattle.std.proofs.Common.{length, slice_index, Option, Some, None, option_map, sym, ap, refl, subst, ◌∙◌, inl, inr}
+use Rattle.std.proofs.Common.{◌≡◌, ◌≢◌, ℕ, ◌+◌, Bool, true, false, not, ◌&&◌, ◌||◌, eqb, List, [], ◌∷◌, ◌++◌}
+use Rattle.std.proofs.Common.{length, slice_index, Some, option_map, sym, ap, refl, subst, ◌∙◌, inl, inr}
 use Rattle.std.proofs.Common.{arith}
 use Rattle.std.specs.Char.{is_ascii_digit}
 use Rattle.std.specs.List.{list_all, list_any}
@@ -13,9 +13,7 @@ use Rattle.awk_numbers.specs.declared.number.Numbers.{Numbers}
 use Rattle.awk_numbers.specs.declared.number.Numbers.TheVariants.{Whole, Double}
 use Rattle.awk_tokens.specs.Bytes.{Text, begins_name, continues_name}
 use Rattle.awk_tokens.specs.Signs.{doubles, is_double, is_sign}
-use Rattle.awk_tokens.specs.Words.{is_name, word_kind, name_kind, kind_of, kind_or, lookup, reserved, words}
-use Rattle.awk_tokens.specs.declared.terminals.Terminal.{Terminal}
-use Rattle.awk_tokens.specs.declared.terminals.Terminal.TheVariants as listed
+use Rattle.awk_tokens.specs.Words.{is_name, word_kind, name_kind, kind_of, kind_or, reserved}
 use Rattle.awk_tokens.specs.Strings.{StringEnds}
 use Rattle.awk_tokens.specs.Patterns.{PatternEnds}
 use Rattle.awk_tokens.specs.Scan.{string_rest, pattern_rest}
@@ -25,6 +23,7 @@ use Rattle.awk_tokens.specs.declared.kinds.TokenKind.TheVariants.{Number, Quoted
 use Rattle.awk_tokens.specs.declared.kinds.TokenKind.TheVariants.{Name, CallName, Sign}
 use Rattle.awk_tokens.proofs.FirstLemmas.{Family, a_number, a_word, a_string, a_pattern, a_sign, family_of, family_at}
 use Rattle.awk_tokens.proofs.FirstLemmas.{family_told, as_number, as_string, as_pattern, as_sign, head_is, tail_is}
+use Rattle.awk_tokens.proofs.FirstLemmas.{word_is, word_family_of}
 use Rattle.awk_tokens.proofs.Once.{no_token_empty}
 use Rattle.awk_tokens.proofs.PatternLemmas.{pattern_rest_at}
 use Rattle.awk_tokens.proofs.StringLemmas.{string_rest_at}
@@ -38,8 +37,10 @@ name_kind_on : (rest more : Text) → name_kind (rest ++ 10 ∷ more) ≡ name_k
 name_kind_on [] more = refl
 name_kind_on (b ∷ rest) more = refl
 
-word_on : (kind : TokenKind) (text rest more : Text) → IsWord kind text rest → IsWord kind text (rest ++ 10 ∷ more)
-word_on kind text rest more h = (h.0, ap (λ k. kind_or (reserved text) k) (name_kind_on rest more) ∙ h.1)
+word_on : (numbers : Numbers) (kind : TokenKind) (text rest more : Text) → IsWord numbers kind text rest
+    → IsWord numbers kind text (rest ++ 10 ∷ more)
+word_on numbers kind text rest more h =
+    (h.0, ap (λ k. kind_or (option_map (kind_of numbers) (reserved text)) k) (name_kind_on rest more) ∙ h.1)
 
 body_on : (part : _) (body rest more : Text) → PatternEnds part (body ++ rest) rest
     → PatternEnds part (body ++ (rest ++ 10 ∷ more)) (rest ++ 10 ∷ more)
@@ -59,11 +60,11 @@ token_on numbers operand Quoted text rest more h = (
 token_on numbers operand Pattern text rest more h =
     (h.0, h.1, h.2, body_on _ h.0 rest more h.3)
 token_on numbers operand Sign text rest more h = h
-token_on numbers operand Keyword text rest more h = word_on Keyword text rest more h
-token_on numbers operand Builtin text rest more h = word_on Builtin text rest more h
-token_on numbers operand Refused text rest more h = word_on Refused text rest more h
-token_on numbers operand Name text rest more h = word_on Name text rest more h
-token_on numbers operand CallName text rest more h = word_on CallName text rest more h
+token_on numbers operand Keyword text rest more h = word_on numbers Keyword text rest more h
+token_on numbers operand Builtin text rest more h = word_on numbers Builtin text rest more h
+token_on numbers operand Refused text rest more h = word_on numbers Refused text rest more h
+token_on numbers operand Name text rest more h = word_on numbers Name text rest more h
+token_on numbers operand CallName text rest more h = word_on numbers CallName text rest more h
 
 is_whole_on : (text rest more : Text) → is_whole text (rest ++ 10 ∷ more) ≡ is_whole text rest
 is_whole_on text [] more = refl
@@ -97,34 +98,6 @@ as_name numbers operand Builtin text rest e h = h.0
 as_name numbers operand Refused text rest e h = h.0
 as_name numbers operand Name text rest e h = h.0
 as_name numbers operand CallName text rest e h = h.0
-
-word_kind_of : (t : Terminal) → family_of (kind_of t) ≡ a_word
-word_kind_of (listed.Builtin which) = refl
-word_kind_of listed.Refused = refl
-word_kind_of _ = refl
-
-word_kinds : (found : Option Terminal) (call : Bool)
-    → family_of (kind_or (option_map kind_of found) (cond call CallName Name)) ≡ a_word
-word_kinds None true = refl
-word_kinds None false = refl
-word_kinds (Some t) call = word_kind_of t
-
-word_family_of : (text rest : Text) → family_of (word_kind text rest) ≡ a_word
-word_family_of text rest = word_kinds (lookup words text) (eqb (slice_index rest 0) 40)
-
--- a word of its kind is that token
-word_is : (numbers : Numbers) (operand : Bool) (kind : TokenKind) (text rest : Text) → family_of kind ≡ a_word
-    → IsWord kind text rest
-    → IsToken numbers operand kind text rest
-word_is numbers operand Number text rest e h = absurd cc
-word_is numbers operand Quoted text rest e h = absurd cc
-word_is numbers operand Pattern text rest e h = absurd cc
-word_is numbers operand Sign text rest e h = absurd cc
-word_is numbers operand Keyword text rest e h = h
-word_is numbers operand Builtin text rest e h = h
-word_is numbers operand Refused text rest e h = h
-word_is numbers operand Name text rest e h = h
-word_is numbers operand CallName text rest e h = h
 
 -- ---- no longer token stands there
 
@@ -162,8 +135,9 @@ word_adds numbers operand b z (r ∷ rest) more (c ∷ added) left none parts al
     let text : Text = b ∷ (z ++ c ∷ []) in
     let name : is_name text ≡ true = ap (λ t. t && list_all continues_name (z ++ c ∷ [])) both.0
     ∙ run_one continues_name z c run.0 run.1 in
-    let token = word_is numbers operand (word_kind text rest) text rest (word_family_of text rest) (name, refl) in
-    let nothing = none (word_kind text rest) (c ∷ []) rest
+    let kind = word_kind numbers text rest in
+    let token = (word_is numbers operand kind text rest (word_family_of numbers text rest) (name, refl)).0 in
+    let nothing = none kind (c ∷ []) rest
     (ap (λ x. x ∷ rest) (head_is r c (rest ++ 10 ∷ more) (added ++ left) parts)) token in
     absurd cc
 

@@ -17,7 +17,8 @@ use Rattle.awk_numbers.specs.declared.number.Numbers.{Numbers}
 use Rattle.awk_numbers.specs.declared.number.Numbers.TheVariants.{Whole, Double}
 use Rattle.awk_tokens.specs.Bytes.{Text, begins_name, continues_name}
 use Rattle.awk_tokens.specs.Signs.{is_single, is_double, is_sign, sign_len}
-use Rattle.awk_tokens.specs.Words.{is_name, word_kind, kind_of, kind_or, lookup, words}
+use Rattle.awk_tokens.specs.Words.{is_name, word_kind, builtin_kind, kind_of, kind_or, is_of_doubles, reserved}
+use Rattle.awk_tokens.specs.declared.words.Builtin.{Builtin as Function}
 use Rattle.awk_tokens.specs.declared.terminals.Terminal.{Terminal}
 use Rattle.awk_tokens.specs.declared.terminals.Terminal.TheVariants as listed
 use Rattle.awk_tokens.specs.Strings.{StringEnds}
@@ -496,23 +497,30 @@ number_refused Double operand b z code begins e = numeral_refused operand b z co
 name_continues : (b : ℕ) → begins_name b ≡ true → continues_name b ≡ true
 name_continues b h = grind (arith, nat_tests)
 
-word_kind_of : (t : Terminal) → family_of (kind_of t) ≡ a_word
-word_kind_of (listed.Builtin which) = refl
-word_kind_of listed.Refused = refl
-word_kind_of _ = refl
+builtin_kind_of : (numbers : Numbers) (which : Function) → family_of (builtin_kind numbers which) ≡ a_word
+builtin_kind_of Whole which = either (is_of_doubles which)
+  where
+    either : (b : Bool) → family_of (cond b Refused Builtin) ≡ a_word
+    either true = refl
+    either false = refl
+builtin_kind_of Double which = refl
 
-word_kinds : (found : Option Terminal) (call : Bool)
-    → family_of (kind_or (option_map kind_of found) (cond call CallName Name)) ≡ a_word
-word_kinds None true = refl
-word_kinds None false = refl
-word_kinds (Some t) call = word_kind_of t
+word_kind_of : (numbers : Numbers) (t : Terminal) → family_of (kind_of numbers t) ≡ a_word
+word_kind_of numbers (listed.Builtin which) = builtin_kind_of numbers which
+word_kind_of numbers _ = refl
 
-word_family_of : (text rest : Text) → family_of (word_kind text rest) ≡ a_word
-word_family_of text rest = word_kinds (lookup words text) (eqb (slice_index rest 0) 40)
+word_kinds : (numbers : Numbers) (found : Option Terminal) (call : Bool)
+    → family_of (kind_or (option_map (kind_of numbers) found) (cond call CallName Name)) ≡ a_word
+word_kinds numbers None true = refl
+word_kinds numbers None false = refl
+word_kinds numbers (Some t) call = word_kind_of numbers t
+
+pub word_family_of : (numbers : Numbers) (text rest : Text) → family_of (word_kind numbers text rest) ≡ a_word
+word_family_of numbers text rest = word_kinds numbers (reserved text) (eqb (slice_index rest 0) 40)
 
 -- a word of its kind is that token
-word_is : (numbers : Numbers) (operand : Bool) (kind : TokenKind) (text rest : Text) → family_of kind ≡ a_word
-    → IsWord kind text rest
+pub word_is : (numbers : Numbers) (operand : Bool) (kind : TokenKind) (text rest : Text) → family_of kind ≡ a_word
+    → IsWord numbers kind text rest
     → IsToken numbers operand kind text rest × IsConstant numbers kind text rest
 word_is numbers operand Number text rest e h = absurd cc
 word_is numbers operand Quoted text rest e h = absurd cc
@@ -524,22 +532,22 @@ word_is numbers operand Refused text rest e h = (h, tt)
 word_is numbers operand Name text rest e h = (h, tt)
 word_is numbers operand CallName text rest e h = (h, tt)
 
-word_choice : (b : ℕ) (z : Text) → continues_name b ≡ true
-    → word (b ∷ z) ≡ (word_kind (b ∷ take (name_len z) z) (drop (name_len z) z), suc (name_len z))
+word_choice : (numbers : Numbers) (b : ℕ) (z : Text) → continues_name b ≡ true
+    → word numbers (b ∷ z) ≡ (word_kind numbers (b ∷ take (name_len z) z) (drop (name_len z) z), suc (name_len z))
 unfolding word
-word_choice b z continues = ap (λ len. (word_kind (take len (b ∷ z)) (drop len (b ∷ z)), len))
+word_choice numbers b z continues = ap (λ len. (word_kind numbers (take len (b ∷ z)) (drop len (b ∷ z)), len))
     (run_len continues_name b z continues)
 
 word_found : (numbers : Numbers) (operand : Bool) (b : ℕ) (z : Text) (kind : TokenKind) (n : ℕ) → begins_name b ≡ true
-    → okay (word (b ∷ z)) ≡ Ok (kind, n) → First numbers operand (b ∷ z) kind n
+    → okay (word numbers (b ∷ z)) ≡ Ok (kind, n) → First numbers operand (b ∷ z) kind n
 word_found numbers operand b z kind n begins e =
     let m = name_len z in
     let text : Text = b ∷ take m z in
     let rest : Text = drop m z in
-    let k = word_kind text rest in
+    let k = word_kind numbers text rest in
     let is_name_of : is_name text ≡ true = ap (λ t. t && list_all continues_name (take m z)) begins
     ∙ list_all_take continues_name z in
-    let token = word_is numbers operand k text rest (word_family_of text rest) (is_name_of, refl) in
+    let token = word_is numbers operand k text rest (word_family_of numbers text rest) (is_name_of, refl) in
     let made : First numbers operand (b ∷ z) k (suc m) =
     record {
       text = text;
@@ -555,7 +563,7 @@ word_found numbers operand b z kind n begins e =
       };
     } in
     subst (λ p. First numbers operand (b ∷ z) p.0 p.1)
-    (sym (word_choice b z (name_continues b begins)) ∙ ok_same (word (b ∷ z))
+    (sym (word_choice numbers b z (name_continues b begins)) ∙ ok_same (word numbers (b ∷ z))
     (kind, n) e) made
 
 -- a scan to the end that was closed
@@ -748,7 +756,7 @@ sign_refused numbers operand b z code none p no_point e =
 
 abbrev choice : Numbers → Bool → ℕ → Text → Scanned
 choice numbers operand b z =
-    cond (begins_number b (get_or z 0 0)) (scan.number numbers (b ∷ z)) (cond (begins_name b) (Ok (word (b ∷ z)))
+    cond (begins_number b (get_or z 0 0)) (scan.number numbers (b ∷ z)) (cond (begins_name b) (Ok (word numbers (b ∷ z)))
     (cond (eqb b 34) (closed Quoted (b ∷ z) (string_rest false z))
     (cond (eqb b 47 && operand) (closed Pattern (b ∷ z) (pattern_rest Outside 0 z)) (sign (b ∷ z)))))
 

@@ -47,8 +47,9 @@ gap_no_number b gap number = grind (arith, nat_tests)
 gap_no_name : (b : ℕ) → begins_gap b ≡ true → begins_name b ≡ true → ⊥
 gap_no_name b gap name = grind (arith, nat_tests)
 
-gap_no_word : (kind : TokenKind) (b : ℕ) (z rest : Text) → begins_gap b ≡ true → IsWord kind (b ∷ z) rest → ⊥
-gap_no_word kind b z rest gap h = gap_no_name b gap (and_parts (begins_name b) (list_all continues_name z) h.0).0
+gap_no_word : (numbers : Numbers) (kind : TokenKind) (b : ℕ) (z rest : Text) → begins_gap b ≡ true
+    → IsWord numbers kind (b ∷ z) rest → ⊥
+gap_no_word numbers kind b z rest gap h = gap_no_name b gap (and_parts (begins_name b) (list_all continues_name z) h.0).0
 
 gap_no_token : (numbers : Numbers) (operand : Bool) (kind : TokenKind) (b : ℕ) (z rest : Text) → begins_gap b ≡ true
     → IsToken numbers operand kind (b ∷ z) rest → ⊥
@@ -58,15 +59,15 @@ gap_no_token numbers operand Quoted b z rest gap h = true≢false (sym gap ∙ a
 gap_no_token numbers operand Pattern b z rest gap h = true≢false (sym gap ∙ ap begins_gap (head_is b 47 z h.0 h.1))
 gap_no_token numbers operand Sign b z rest gap h = both_ways (begins_gap b)
     (sign_first begins_gap refl refl b z h.0) gap
-gap_no_token numbers operand Keyword b z rest gap h = gap_no_word Keyword b z rest gap h
-gap_no_token numbers operand Builtin b z rest gap h = gap_no_word Builtin b z rest gap h
-gap_no_token numbers operand Refused b z rest gap h = gap_no_word Refused b z rest gap h
-gap_no_token numbers operand Name b z rest gap h = gap_no_word Name b z rest gap h
-gap_no_token numbers operand CallName b z rest gap h = gap_no_word CallName b z rest gap h
+gap_no_token numbers operand Keyword b z rest gap h = gap_no_word numbers Keyword b z rest gap h
+gap_no_token numbers operand Builtin b z rest gap h = gap_no_word numbers Builtin b z rest gap h
+gap_no_token numbers operand Refused b z rest gap h = gap_no_word numbers Refused b z rest gap h
+gap_no_token numbers operand Name b z rest gap h = gap_no_word numbers Name b z rest gap h
+gap_no_token numbers operand CallName b z rest gap h = gap_no_word numbers CallName b z rest gap h
 
 -- a token has a byte
-no_word_empty : (kind : TokenKind) (rest : Text) → IsWord kind [] rest → ⊥
-no_word_empty kind rest h = absurd cc
+no_word_empty : (numbers : Numbers) (kind : TokenKind) (rest : Text) → IsWord numbers kind [] rest → ⊥
+no_word_empty numbers kind rest h = absurd cc
 
 no_number_empty : (numbers : Numbers) → IsNumber numbers [] → ⊥
 no_number_empty Whole h = absurd cc
@@ -78,11 +79,11 @@ no_token_empty numbers operand Number rest h = no_number_empty numbers h
 no_token_empty numbers operand Quoted rest h = let e = h.1 in absurd cc
 no_token_empty numbers operand Pattern rest h = let e = h.1 in absurd cc
 no_token_empty numbers operand Sign rest h = let e = h.0 in absurd cc
-no_token_empty numbers operand Keyword rest h = no_word_empty Keyword rest h
-no_token_empty numbers operand Builtin rest h = no_word_empty Builtin rest h
-no_token_empty numbers operand Refused rest h = no_word_empty Refused rest h
-no_token_empty numbers operand Name rest h = no_word_empty Name rest h
-no_token_empty numbers operand CallName rest h = no_word_empty CallName rest h
+no_token_empty numbers operand Keyword rest h = no_word_empty numbers Keyword rest h
+no_token_empty numbers operand Builtin rest h = no_word_empty numbers Builtin rest h
+no_token_empty numbers operand Refused rest h = no_word_empty numbers Refused rest h
+no_token_empty numbers operand Name rest h = no_word_empty numbers Name rest h
+no_token_empty numbers operand CallName rest h = no_word_empty numbers CallName rest h
 
 -- the first byte of a separator
 record GapByte (gap : Text) : Type 0 where
@@ -180,16 +181,16 @@ token_lengths numbers operand k j x y v w same one none two other =
     omega arith
 
 -- the kind of a token is told by its bytes and the rest
-abbrev kind_in : Family → Text → Text → TokenKind
-kind_in a_number text rest = Number
-kind_in a_word text rest = word_kind text rest
-kind_in a_string text rest = Quoted
-kind_in a_pattern text rest = Pattern
-kind_in a_sign text rest = Sign
+abbrev kind_in : Numbers → Family → Text → Text → TokenKind
+kind_in numbers a_number text rest = Number
+kind_in numbers a_word text rest = word_kind numbers text rest
+kind_in numbers a_string text rest = Quoted
+kind_in numbers a_pattern text rest = Pattern
+kind_in numbers a_sign text rest = Sign
 
 kind_is : (numbers : Numbers) (operand : Bool) (kind : TokenKind) (text rest : Text)
     → IsToken numbers operand kind text rest
-    → kind_in (family_of kind) text rest ≡ kind
+    → kind_in numbers (family_of kind) text rest ≡ kind
 kind_is numbers operand Number text rest h = refl
 kind_is numbers operand Quoted text rest h = refl
 kind_is numbers operand Pattern text rest h = refl
@@ -208,7 +209,7 @@ same_kind numbers operand k j (b ∷ text) rest one two =
     let family : family_of k ≡ family_of j = sym (family_told numbers operand k b text rest one)
     ∙ family_told numbers operand j b text
     rest two in
-    sym (kind_is numbers operand k (b ∷ text) rest one) ∙ ap (λ f. kind_in f (b ∷ text) rest) family
+    sym (kind_is numbers operand k (b ∷ text) rest one) ∙ ap (λ f. kind_in numbers f (b ∷ text) rest) family
     ∙ kind_is numbers operand j
     (b ∷ text) rest two
 
@@ -322,9 +323,9 @@ read_once numbers script tokens others one two =
 
 -- ---- where a refusal stands nothing can be read
 
-stray_no_word : (kind : TokenKind) (z : Text) (b : ℕ) (text rest : Text) → IsStray z → z ≡ b ∷ (text ++ rest)
-    → IsWord kind (b ∷ text) rest → ⊥
-stray_no_word kind z b text rest s same h =
+stray_no_word : (numbers : Numbers) (kind : TokenKind) (z : Text) (b : ℕ) (text rest : Text) → IsStray z
+    → z ≡ b ∷ (text ++ rest) → IsWord numbers kind (b ∷ text) rest → ⊥
+stray_no_word numbers kind z b text rest s same h =
     both_ways (begins_name b) (ap (λ w. begins_name (slice_index w 0)) (sym same) ∙ s.no_name)
     (and_parts (begins_name b) (list_all continues_name text) h.0).0
 
@@ -364,11 +365,16 @@ stray_no_token numbers operand Pattern z (b ∷ text) rest s same h =
 stray_no_token numbers operand Sign z (b ∷ text) rest s same h = both_ways (is_sign (b ∷ text))
     (s.no_sign (b ∷ text) rest same)
     h.0
-stray_no_token numbers operand Keyword z (b ∷ text) rest s same h = stray_no_word Keyword z b text rest s same h
-stray_no_token numbers operand Builtin z (b ∷ text) rest s same h = stray_no_word Builtin z b text rest s same h
-stray_no_token numbers operand Refused z (b ∷ text) rest s same h = stray_no_word Refused z b text rest s same h
-stray_no_token numbers operand Name z (b ∷ text) rest s same h = stray_no_word Name z b text rest s same h
-stray_no_token numbers operand CallName z (b ∷ text) rest s same h = stray_no_word CallName z b text rest s same h
+stray_no_token numbers operand Keyword z (b ∷ text) rest s same h =
+    stray_no_word numbers Keyword z b text rest s same h
+stray_no_token numbers operand Builtin z (b ∷ text) rest s same h =
+    stray_no_word numbers Builtin z b text rest s same h
+stray_no_token numbers operand Refused z (b ∷ text) rest s same h =
+    stray_no_word numbers Refused z b text rest s same h
+stray_no_token numbers operand Name z (b ∷ text) rest s same h =
+    stray_no_word numbers Name z b text rest s same h
+stray_no_token numbers operand CallName z (b ∷ text) rest s same h =
+    stray_no_word numbers CallName z b text rest s same h
 
 -- a gap begins with no such byte
 gap_not : (p : ℕ) (z gap rest : Text) → begins_gap p ≡ false → IsGap gap rest → p ∷ z ≡ gap ++ rest → ⊥

@@ -1,9 +1,9 @@
 -- What is read in profile whole is read so in profile double.
-use Rattle.std.proofs.Common.{◌≡◌, ℕ, ◌+◌, ◌-◌, ◌*◌, ◌^◌, ◌<◌, ◌≤◌, Bool, true, false, not, ◌&&◌, ◌||◌, cond}
+use Rattle.std.proofs.Common.{◌≡◌, ◌≢◌, ℕ, ◌+◌, ◌-◌, ◌*◌, ◌^◌, ◌<◌, ◌≤◌, Bool, true, false, not, ◌&&◌, ◌||◌, cond}
 use Rattle.std.proofs.Common.{eqb, T, List, [], ◌∷◌, ◌++◌, length, take, drop, get_or, fold, nat_le}
-use Rattle.std.proofs.Common.{Result, is_ok, Ok, sym, ap, refl, subst, ◌∙◌, ◌⊎◌, inl, inr, arith}
+use Rattle.std.proofs.Common.{option_map, Option, Some, None, Result, is_ok, Ok, sym, ap, refl, subst, ◌∙◌, ◌⊎◌, inl, inr, arith}
 use Rattle.std.specs.Char.{is_ascii_digit, digit_value}
-use Rattle.std.specs.List.{list_all}
+use Rattle.std.specs.List.{list_all, All}
 use Rattle.std.specs.Float.{Float, binary64, nan, inf, fin, float_is_finite}
 use Rattle.std.specs.Str.Parse.{digits_value_after}
 use Rattle.std.proofs.Math.Seq.{drop-append_seam}
@@ -11,6 +11,7 @@ use Rattle.std.proofs.lemmas.Bool.{and_parts, both_ways, cases_Bool, eqb-true, l
 use Rattle.std.proofs.lemmas.Bool.{false≢true}
 use Rattle.std.proofs.lemmas.Bool.Decides.{nat_tests}
 use Rattle.std.proofs.lemmas.List.{append_assoc, append-nil, get_or_past, length-append, take_all}
+use Rattle.std.proofs.lemmas.List.Elements.{All-pop}
 use Rattle.std.proofs.lemmas.List.Folds.{list_all-append}
 use lib.Ieee.{eq, le, lt, round}
 use lib.Ieee.Order.{round_mono}
@@ -22,15 +23,20 @@ use Rattle.awk_numbers.specs.declared.number.NumberFault.{NumberFault}
 use Rattle.awk_numbers.specs.declared.number.Numbers.TheVariants.{Whole, Double}
 use Rattle.awk_tokens.specs.Bytes.{Text}
 use Rattle.awk_tokens.specs.Laws.{Restricts}
-use Rattle.awk_tokens.specs.Reads.{ReadsTo, begun, a_gap, a_token, operand_after}
+use Rattle.awk_tokens.specs.Reads.{ReadsTo, begun, a_gap, a_token, operand_after, token_of}
 use Rattle.awk_tokens.specs.Scan.{digits_len}
 use Rattle.awk_tokens.specs.Tokens.{is_number, whole, IsNumeral, IsToken, NoLonger, value_of, begins_exponent, is_whole}
-use Rattle.awk_tokens.specs.Tokens.{IsConstant, IsFirst}
+use Rattle.awk_tokens.specs.Tokens.{IsWord, IsConstant, IsFirst}
+use Rattle.awk_tokens.specs.Words.{word_kind, builtin_kind, kind_of, kind_or, name_kind, is_of_doubles, reserved}
+use Rattle.awk_tokens.specs.declared.words.Builtin.{Builtin as Function}
+use Rattle.awk_tokens.specs.declared.terminals.Terminal.{Terminal}
+use Rattle.awk_tokens.specs.declared.terminals.Terminal.TheVariants as listed
 use Rattle.awk_tokens.specs.declared.token.Token.{Token}
 use Rattle.awk_tokens.specs.declared.kinds.TokenKind.{TokenKind}
 use Rattle.awk_tokens.specs.declared.kinds.TokenKind.TheVariants.{Number, Quoted, Pattern, Keyword, Builtin, Refused}
 use Rattle.awk_tokens.specs.declared.kinds.TokenKind.TheVariants.{Name, CallName, Sign}
 use Rattle.awk_tokens.proofs.FirstLemmas.{a_number, family_of, family_at, other_family, family_told, as_number}
+use Rattle.awk_tokens.proofs.FirstLemmas.{word_is, word_family_of}
 use Rattle.awk_tokens.proofs.NumeralLemmas.{pointed_len, mantissa_len, mantissa_to, exponent_len}
 use Rattle.awk_tokens.proofs.NumeralLemmas.{numeral_len, is_signed}
 use Rattle.awk_tokens.proofs.NumeralLemmas.{lead_len, has_power, one_order, one_up, number_all}
@@ -50,30 +56,60 @@ numeral_of text h =
       is_exponent = refl;
     }
 
-token_in : (operand : Bool) (kind : TokenKind) (text rest : Text) → IsToken Whole operand kind text rest
-    → IsToken Double operand kind text rest
-token_in operand Number text rest h = numeral_of text h
-token_in operand Quoted text rest h = h
-token_in operand Pattern text rest h = h
-token_in operand Sign text rest h = h
-token_in operand Keyword text rest h = h
-token_in operand Builtin text rest h = h
-token_in operand Refused text rest h = h
-token_in operand Name text rest h = h
-token_in operand CallName text rest h = h
+-- a word that whole numbers don't refuse is of the same kind among doubles
+builtin_in : (which : Function) (kind : TokenKind) → kind ≢ Refused → builtin_kind Whole which ≡ kind → Builtin ≡ kind
+builtin_in which kind some e = by (is_of_doubles which) e
+  where
+    by : (b : Bool) → cond b Refused Builtin ≡ kind → Builtin ≡ kind
+    by true e = absurd (some (sym e))
+    by false e = e
+
+kind_in : (t : Terminal) (kind : TokenKind) → kind ≢ Refused → kind_of Whole t ≡ kind → kind_of Double t ≡ kind
+kind_in (listed.Builtin which) kind some e = builtin_in which kind some e
+kind_in _ kind some e = e
+
+kinds_in : (found : Option Terminal) (other kind : TokenKind) → kind ≢ Refused
+    → kind_or (option_map (kind_of Whole) found) other ≡ kind
+    → kind_or (option_map (kind_of Double) found) other ≡ kind
+kinds_in None other kind some e = e
+kinds_in (Some t) other kind some e = kind_in t kind some e
+
+word_in : (kind : TokenKind) (text rest : Text) → kind ≢ Refused → IsWord Whole kind text rest
+    → IsWord Double kind text rest
+word_in kind text rest some h = (h.0, kinds_in (reserved text) (name_kind rest) kind some h.1)
+
+token_in : (operand : Bool) (kind : TokenKind) (text rest : Text) → kind ≢ Refused
+    → IsToken Whole operand kind text rest → IsToken Double operand kind text rest
+token_in operand Number text rest some h = numeral_of text h
+token_in operand Quoted text rest some h = h
+token_in operand Pattern text rest some h = h
+token_in operand Sign text rest some h = h
+token_in operand Keyword text rest some h = word_in Keyword text rest some h
+token_in operand Builtin text rest some h = word_in Builtin text rest some h
+token_in operand Refused text rest some h = absurd (some refl)
+token_in operand Name text rest some h = word_in Name text rest some h
+token_in operand CallName text rest some h = word_in CallName text rest some h
+
+-- a word of doubles is a word of whole numbers too, of another kind perhaps
+a_word_of_whole : (operand : Bool) (kind : TokenKind) (text rest : Text) → IsWord Double kind text rest
+    → (other : TokenKind) × IsToken Whole operand other text rest
+a_word_of_whole operand kind text rest h =
+    let other = word_kind Whole text rest in
+    (other, (word_is Whole operand other text rest (word_family_of Whole text rest) (h.0, refl)).0)
 
 -- a token of profile double is a number, or one of profile whole
 token_of_whole : (operand : Bool) (kind : TokenKind) (text rest : Text) → IsToken Double operand kind text rest
-    → (IsNumeral text × (family_of kind ≡ a_number)) ⊎ IsToken Whole operand kind text rest
+    → (IsNumeral text × (family_of kind ≡ a_number))
+    ⊎ ((other : TokenKind) × IsToken Whole operand other text rest)
 token_of_whole operand Number text rest h = inl (h, refl)
-token_of_whole operand Quoted text rest h = inr h
-token_of_whole operand Pattern text rest h = inr h
-token_of_whole operand Sign text rest h = inr h
-token_of_whole operand Keyword text rest h = inr h
-token_of_whole operand Builtin text rest h = inr h
-token_of_whole operand Refused text rest h = inr h
-token_of_whole operand Name text rest h = inr h
-token_of_whole operand CallName text rest h = inr h
+token_of_whole operand Quoted text rest h = inr (Quoted, h)
+token_of_whole operand Pattern text rest h = inr (Pattern, h)
+token_of_whole operand Sign text rest h = inr (Sign, h)
+token_of_whole operand Keyword text rest h = inr (a_word_of_whole operand Keyword text rest h)
+token_of_whole operand Builtin text rest h = inr (a_word_of_whole operand Builtin text rest h)
+token_of_whole operand Refused text rest h = inr (a_word_of_whole operand Refused text rest h)
+token_of_whole operand Name text rest h = inr (a_word_of_whole operand Name text rest h)
+token_of_whole operand CallName text rest h = inr (a_word_of_whole operand CallName text rest h)
 
 number_only : (kind : TokenKind) → family_of kind ≡ a_number → kind ≡ Number
 number_only Number e = refl
@@ -211,7 +247,7 @@ longest_in : (operand : Bool) (kind : TokenKind) (text rest : Text) → IsFirst 
 longest_in operand kind text rest first other more left parts token =
     elim (token_of_whole operand other (text ++ more) left token) [
       | inl numeral ↦ numeral_no_longer operand kind other text rest more left first parts token numeral.0 numeral.1
-      | inr same ↦ first.longest other more left parts same
+      | inr same ↦ first.longest same.0 more left parts same.1
     ]
 
 -- ---- its number is a double
@@ -331,23 +367,28 @@ constant_in operand CallName text rest h is = tt
 
 -- ---- and so is all that is read
 
-first_in : (operand : Bool) (kind : TokenKind) (text rest : Text) → IsFirst Whole operand kind text rest
-    → IsFirst Double operand kind text rest
-first_in operand kind text rest first =
+first_in : (operand : Bool) (kind : TokenKind) (text rest : Text) → kind ≢ Refused
+    → IsFirst Whole operand kind text rest → IsFirst Double operand kind text rest
+first_in operand kind text rest some first =
     record {
-      token = token_in operand kind text rest first.token;
+      token = token_in operand kind text rest some first.token;
       longest = longest_in operand kind text rest first;
       constant = constant_in operand kind text rest first.token first.constant;
     }
 
-reads_in : (front : Text) (tokens : List Token) (rest : Text) → ReadsTo Whole front tokens rest
+abbrev NoRefused : List Token → Type 0
+NoRefused tokens = All (λ t. t.kind ≢ Refused) tokens
+
+reads_in : (front : Text) (tokens : List Token) (rest : Text) → NoRefused tokens → ReadsTo Whole front tokens rest
     → ReadsTo Double front tokens rest
-reads_in _ _ _ (begun script) = begun script
-reads_in _ _ _ (a_gap front gap rest tokens before h) =
-    a_gap front gap rest tokens (reads_in front tokens (gap ++ rest) before) h
-reads_in _ _ _ (a_token front text rest tokens kind before h) =
-    a_token front text rest tokens kind (reads_in front tokens (text ++ rest) before)
-    (first_in (operand_after tokens) kind text rest h)
+reads_in _ _ _ none (begun script) = begun script
+reads_in _ _ _ none (a_gap front gap rest tokens before h) =
+    a_gap front gap rest tokens (reads_in front tokens (gap ++ rest) none before) h
+reads_in _ _ _ none (a_token front text rest tokens kind before h) =
+    let parts = All-pop (λ t. t.kind ≢ Refused) (tokens ++ token_of front kind text ∷ []) tokens
+    (Some (token_of front kind text)) refl none in
+    a_token front text rest tokens kind (reads_in front tokens (text ++ rest) parts.0 before)
+    (first_in (operand_after tokens) kind text rest parts.1 h)
 
 pub restricts : Restricts
-restricts script tokens h = reads_in script tokens [] h
+restricts script tokens none h = reads_in script tokens [] none h

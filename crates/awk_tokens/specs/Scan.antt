@@ -110,8 +110,8 @@ unfoldable pub number : Numbers → Text → Scanned
 number Whole z = whole z
 number Double z = double (constant z)
 
-unfoldable pub word : Text → TokenKind × ℕ
-word z = let n = name_len z in (word_kind (take n z) (drop n z), n)
+unfoldable pub word : Numbers → Text → TokenKind × ℕ
+word numbers z = let n = name_len z in (word_kind numbers (take n z) (drop n z), n)
 
 unfoldable pub sign : Text → Scanned
 sign z = let n = sign_len (slice_index z 0) (slice_index z 1) in if n == 0 then Err 1 else Ok (Sign, n)
@@ -125,7 +125,7 @@ unfoldable pub first_token : Numbers → Bool → Text → Scanned
 first_token numbers operand z =
     let b = slice_index z 0 in
     if begins_number b (slice_index z 1) then number numbers z
-    else (if begins_name b then Ok (word z)
+    else (if begins_name b then Ok (word numbers z)
     else (if b == 34 then closed Quoted z (string_rest false (drop 1 z))
     else (if b == 47 && operand then closed Pattern z (pattern_rest Outside 0 (drop 1 z))
     else sign z)))

@@ -50,8 +50,8 @@ IsNumber Double text = IsNumeral text
 -- ---- tokens
 
 -- a word or a name of this kind
-abbrev pub IsWord : TokenKind → Text → Text → Type 0
-IsWord kind text rest = (is_name text ≡ true) × (word_kind text rest ≡ kind)
+abbrev pub IsWord : Numbers → TokenKind → Text → Text → Type 0
+IsWord numbers kind text rest = (is_name text ≡ true) × (word_kind numbers text rest ≡ kind)
 
 -- The text is a token of this kind where this rest stands behind it. The flag says whether an
 -- operand may begin there: a `/` then begins an expression, and is no sign.
@@ -61,11 +61,11 @@ IsToken numbers operand Quoted text rest = (body : Text) × (text ≡ 34 ∷ bod
 IsToken numbers operand Pattern text rest =
     (body : Text) × (text ≡ 47 ∷ body) × (operand ≡ true) × PatternEnds Outside (body ++ rest) rest
 IsToken numbers operand Sign text rest = (is_sign text ≡ true) × (operand ≡ true → slice_index text 0 ≢ 47)
-IsToken numbers operand Keyword text rest = IsWord Keyword text rest
-IsToken numbers operand Builtin text rest = IsWord Builtin text rest
-IsToken numbers operand Refused text rest = IsWord Refused text rest
-IsToken numbers operand Name text rest = IsWord Name text rest
-IsToken numbers operand CallName text rest = IsWord CallName text rest
+IsToken numbers operand Keyword text rest = IsWord numbers Keyword text rest
+IsToken numbers operand Builtin text rest = IsWord numbers Builtin text rest
+IsToken numbers operand Refused text rest = IsWord numbers Refused text rest
+IsToken numbers operand Name text rest = IsWord numbers Name text rest
+IsToken numbers operand CallName text rest = IsWord numbers CallName text rest
 
 -- no longer front of what stands there is a token of any kind
 abbrev pub NoLonger : Numbers → Bool → Text → Text → Type 0

@@ -4,6 +4,8 @@ use Rattle.std.specs.Prelude.{ℕ, Bool, true, false, ◌&&◌, if◌then◌else
 use Rattle.std.specs.Prelude.{slice_index, Option, Some, None, option_map}
 use Rattle.std.specs.List.{list_any, list_all}
 use Rattle.std.specs.Str.{bytes_eq}
+use Rattle.awk_numbers.specs.declared.number.Numbers.{Numbers}
+use Rattle.awk_numbers.specs.declared.number.Numbers.TheVariants.{Whole, Double}
 use Rattle.awk_tokens.specs.Bytes.{Text, begins_name, continues_name}
 use Rattle.awk_tokens.specs.declared.kinds.TokenKind.{TokenKind}
 use Rattle.awk_tokens.specs.declared.kinds.TokenKind.TheVariants as kind
@@ -39,15 +41,23 @@ jumps = j.Break ∷ j.Continue ∷ j.Next ∷ j.NextFile ∷ []
 
 -- the built-in functions, with the parameters of each
 abbrev pub builtin_entry : Builtin → Text × Parameters
+builtin_entry b.Atan2 = (codes "atan2", takes.Two)
 builtin_entry b.Close = (codes "close", takes.One)
+builtin_entry b.Cos = (codes "cos", takes.One)
+builtin_entry b.Exp = (codes "exp", takes.One)
 builtin_entry b.Fflush = (codes "fflush", takes.AtMostOne)
 builtin_entry b.Gsub = (codes "gsub", takes.Replaced true)
 builtin_entry b.Index = (codes "index", takes.Two)
 builtin_entry b.Int = (codes "int", takes.One)
 builtin_entry b.Length = (codes "length", takes.Measured)
+builtin_entry b.Log = (codes "log", takes.One)
 builtin_entry b.Match = (codes "match", takes.Two)
+builtin_entry b.Rand = (codes "rand", takes.Zero)
+builtin_entry b.Sin = (codes "sin", takes.One)
 builtin_entry b.Split = (codes "split", takes.Pieces)
 builtin_entry b.Sprintf = (codes "sprintf", takes.OneOrMore)
+builtin_entry b.Sqrt = (codes "sqrt", takes.One)
+builtin_entry b.Srand = (codes "srand", takes.AtMostOne)
 builtin_entry b.Sub = (codes "sub", takes.Replaced false)
 builtin_entry b.Substr = (codes "substr", takes.TwoOrThree)
 builtin_entry b.System = (codes "system", takes.One)
@@ -56,14 +66,20 @@ builtin_entry b.Toupper = (codes "toupper", takes.One)
 
 abbrev pub builtins : List Builtin
 builtins =
-    b.Close ∷ b.Fflush ∷ b.Gsub ∷ b.Index ∷ b.Int ∷ b.Length ∷ b.Match ∷ b.Split ∷ b.Sprintf ∷ b.Sub ∷ b.Substr
-    ∷ b.System ∷ b.Tolower ∷ b.Toupper ∷ []
+    b.Atan2 ∷ b.Close ∷ b.Cos ∷ b.Exp ∷ b.Fflush ∷ b.Gsub ∷ b.Index ∷ b.Int ∷ b.Length ∷ b.Log ∷ b.Match ∷ b.Rand
+    ∷ b.Sin ∷ b.Split ∷ b.Sprintf ∷ b.Sqrt ∷ b.Srand ∷ b.Sub ∷ b.Substr ∷ b.System ∷ b.Tolower ∷ b.Toupper ∷ []
 
--- the words of functions that the profile leaves out
-abbrev pub refused : List Text
-refused =
-    codes "atan2" ∷ codes "cos" ∷ codes "exp" ∷ codes "log" ∷ codes "rand" ∷ codes "sin" ∷ codes "sqrt" ∷ codes "srand"
-    ∷ []
+-- whether only doubles have it: whole numbers keep its word, and refuse it
+abbrev pub is_of_doubles : Builtin → Bool
+is_of_doubles b.Atan2 = true
+is_of_doubles b.Cos = true
+is_of_doubles b.Exp = true
+is_of_doubles b.Log = true
+is_of_doubles b.Rand = true
+is_of_doubles b.Sin = true
+is_of_doubles b.Sqrt = true
+is_of_doubles b.Srand = true
+is_of_doubles other = false
 
 abbrev pub builtin_text : Builtin → Text
 builtin_text which = (builtin_entry which).0
@@ -71,9 +87,10 @@ builtin_text which = (builtin_entry which).0
 abbrev pub parameters : Builtin → Parameters
 parameters which = (builtin_entry which).1
 
+-- the same words in both profiles of numbers
 abbrev pub words : List (Text × Terminal)
 words = keywords ++ (map (λ which. (jump_text which, w.Jump which)) jumps
-    ++ (map (λ which. (builtin_text which, w.Builtin which)) builtins ++ map (λ text. (text, w.Refused)) refused))
+    ++ map (λ which. (builtin_text which, w.Builtin which)) builtins)
 
 -- ---- what is told by the table
 
@@ -82,14 +99,18 @@ abbrev pub lookup : List (Text × Terminal) → Text → Option Terminal
 lookup [] word = None
 lookup (entry ∷ entries) word = if bytes_eq entry.0 word then Some entry.1 else lookup entries word
 
-abbrev pub kind_of : Terminal → TokenKind
-kind_of (w.Builtin which) = kind.Builtin
-kind_of w.Refused = kind.Refused
-kind_of other = kind.Keyword
+-- what a word of the language is to the grammar
+abbrev pub reserved : Text → Option Terminal
+reserved word = lookup words word
 
--- the kind of a word that is listed
-abbrev pub reserved : Text → Option TokenKind
-reserved word = option_map kind_of (lookup words word)
+abbrev pub builtin_kind : Numbers → Builtin → TokenKind
+builtin_kind Whole which = if is_of_doubles which then kind.Refused else kind.Builtin
+builtin_kind Double which = kind.Builtin
+
+-- the kind of a word of the language
+abbrev pub kind_of : Numbers → Terminal → TokenKind
+kind_of numbers (w.Builtin which) = builtin_kind numbers which
+kind_of numbers other = kind.Keyword
 
 abbrev pub keyword_of : Option Terminal → Terminal
 keyword_of None = w.Refused
@@ -103,11 +124,11 @@ builtin_of (Some other) = w.Refused
 
 -- what a token of the kind `Keyword` is to the grammar
 abbrev pub as_keyword : Text → Terminal
-as_keyword text = keyword_of (lookup words text)
+as_keyword text = keyword_of (reserved text)
 
 -- what a token of the kind `Builtin` is to the grammar
 abbrev pub as_builtin : Text → Terminal
-as_builtin text = builtin_of (lookup words text)
+as_builtin text = builtin_of (reserved text)
 
 abbrev pub is_among : List Text → Text → Bool
 is_among texts text = list_any (λ t. bytes_eq t text) texts
@@ -128,5 +149,5 @@ kind_or None other = other
 kind_or (Some found) other = found
 
 -- the kind of a word or name, before this rest
-abbrev pub word_kind : Text → Text → TokenKind
-word_kind word rest = kind_or (reserved word) (name_kind rest)
+abbrev pub word_kind : Numbers → Text → Text → TokenKind
+word_kind numbers word rest = kind_or (option_map (kind_of numbers) (reserved word)) (name_kind rest)

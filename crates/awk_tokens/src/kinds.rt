@@ -13,7 +13,7 @@ pub enum TokenKind {
     Keyword,
     /// The word of a built-in function, such as `length`.
     Builtin,
-    /// The word of a built-in function that this profile leaves out, such as `sin`.
+    /// Of whole numbers, the word of a built-in function that only doubles have, such as `sin`.
     Refused,
     /// NAME: a letter or `_`, then letters, digits and `_`, and no word of the three kinds above.
     Name,

@@ -2,7 +2,7 @@
 
 ghost use Rattle.awk_tokens.specs.Laws.{Restricts};
 
-/// A script that profile whole reads is read as the same tokens in profile double.
+/// A script that profile whole reads without a word of doubles alone is read as the same tokens in profile double.
 pub fn restriction()
     ensures { Restricts }
 {}

@@ -6,7 +6,8 @@ ghost use Rattle.awk_tokens.specs.Bytes as bytes;
 ghost use Rattle.awk_tokens.specs.Words as spec;
 
 use crate::kinds::TokenKind;
-use crate::words::reserved;
+use crate::words::{kind_of, reserved};
+use awk_numbers::number::Numbers;
 
 /// Whether a byte begins a word or name: an ASCII letter or `_`.
 pub fn begins_name(b: u8) -> bool
@@ -40,11 +41,11 @@ pub fn is_name(text: &[u8]) -> bool
 }
 
 /// The kind of a word or name, before this rest of the script.
-pub fn word_kind(word: &[u8], rest: &[u8]) -> TokenKind
-    ensures { result ≡ spec.word_kind word.now rest.now }
+pub fn word_kind(numbers: Numbers, word: &[u8], rest: &[u8]) -> TokenKind
+    ensures { result ≡ spec.word_kind numbers word.now rest.now }
 {
     match reserved(word) {
-        Some(kind) => kind,
+        Some(found) => kind_of(numbers, found),
         None if rest.first() == Some(&b'(') => TokenKind::CallName,
         None => TokenKind::Name,
     }

@@ -301,12 +301,12 @@ fn number(numbers: Numbers, z: &[u8]) -> Scanned
 }
 
 #[tactic(auto, unfolding(crate::specs::Scan::word))]
-fn word(z: &[u8]) -> (TokenKind, usize)
-    ensures { result ≡ spec.word z.now }
+fn word(numbers: Numbers, z: &[u8]) -> (TokenKind, usize)
+    ensures { result ≡ spec.word numbers z.now }
 {
     let n = name_len(z);
     let (name, rest) = z.split_at(n);
-    (word_kind(name, rest), n)
+    (word_kind(numbers, name, rest), n)
 }
 
 fn closed(kind: TokenKind, z: &[u8], rest: Option<&[u8]>) -> Scanned
@@ -348,7 +348,7 @@ pub fn first_token(numbers: Numbers, operand: bool, z: &[u8]) -> Scanned
     if begins_number(b, byte(z, 1)) {
         number(numbers, z)
     } else if begins_name(b) {
-        Ok(word(z))
+        Ok(word(numbers, z))
     } else if b == b'"' {
         closed(TokenKind::Quoted, z, string_rest(&z[1..]))
     } else if b == b'/' && operand {

@@ -5,6 +5,7 @@ ghost use Rattle.awk_tokens.specs.Words as spec;
 
 use crate::kinds::TokenKind;
 use crate::terminals::Terminal;
+use awk_numbers::number::Numbers;
 
 /// The statements that are a word alone.
 #[derive(Clone, Copy, PartialEq, Eq, Drop)]
@@ -32,15 +33,23 @@ impl Jump {
 /// The functions that the language brings.
 #[derive(Clone, Copy, PartialEq, Eq, Drop)]
 pub enum Builtin {
+    Atan2,
     Close,
+    Cos,
+    Exp,
     Fflush,
     Gsub,
     Index,
     Int,
     Length,
+    Log,
     Match,
+    Rand,
+    Sin,
     Split,
     Sprintf,
+    Sqrt,
+    Srand,
     Sub,
     Substr,
     System,
@@ -51,6 +60,7 @@ pub enum Builtin {
 /// The parameters of a built-in function. All but the last three forms are plain expressions.
 #[derive(Clone, Copy, PartialEq, Eq, Drop)]
 pub enum Parameters {
+    Zero,
     One,
     AtMostOne,
     Two,
@@ -69,15 +79,23 @@ impl Builtin {
         ensures { (result.0.now, result.1) ≡ spec.builtin_entry self }
     {
         match self {
+            Builtin::Atan2 => ("atan2", Parameters::Two),
             Builtin::Close => ("close", Parameters::One),
+            Builtin::Cos => ("cos", Parameters::One),
+            Builtin::Exp => ("exp", Parameters::One),
             Builtin::Fflush => ("fflush", Parameters::AtMostOne),
             Builtin::Gsub => ("gsub", Parameters::Replaced(true)),
             Builtin::Index => ("index", Parameters::Two),
             Builtin::Int => ("int", Parameters::One),
             Builtin::Length => ("length", Parameters::Measured),
+            Builtin::Log => ("log", Parameters::One),
             Builtin::Match => ("match", Parameters::Two),
+            Builtin::Rand => ("rand", Parameters::Zero),
+            Builtin::Sin => ("sin", Parameters::One),
             Builtin::Split => ("split", Parameters::Pieces),
             Builtin::Sprintf => ("sprintf", Parameters::OneOrMore),
+            Builtin::Sqrt => ("sqrt", Parameters::One),
+            Builtin::Srand => ("srand", Parameters::AtMostOne),
             Builtin::Sub => ("sub", Parameters::Replaced(false)),
             Builtin::Substr => ("substr", Parameters::TwoOrThree),
             Builtin::System => ("system", Parameters::One),
@@ -99,6 +117,36 @@ impl Builtin {
     {
         self.entry().1
     }
+
+    /// Whether only doubles have it.
+    fn is_of_doubles(self) -> bool
+        ensures { result ≡ spec.is_of_doubles self }
+    {
+        match self {
+            Builtin::Atan2
+            | Builtin::Cos
+            | Builtin::Exp
+            | Builtin::Log
+            | Builtin::Rand
+            | Builtin::Sin
+            | Builtin::Sqrt
+            | Builtin::Srand => true,
+            Builtin::Close
+            | Builtin::Fflush
+            | Builtin::Gsub
+            | Builtin::Index
+            | Builtin::Int
+            | Builtin::Length
+            | Builtin::Match
+            | Builtin::Split
+            | Builtin::Sprintf
+            | Builtin::Sub
+            | Builtin::Substr
+            | Builtin::System
+            | Builtin::Tolower
+            | Builtin::Toupper => false,
+        }
+    }
 }
 
 /// The words of each length, so that a name is compared with few of them.
@@ -111,12 +159,12 @@ const TWO: [(&[u8], Terminal); 3] = [
 const THREE: [(&[u8], Terminal); 8] = [
     (b"END", Terminal::EndWord),
     (b"for", Terminal::For),
+    (b"cos", Terminal::Builtin(Builtin::Cos)),
+    (b"exp", Terminal::Builtin(Builtin::Exp)),
     (b"int", Terminal::Builtin(Builtin::Int)),
+    (b"log", Terminal::Builtin(Builtin::Log)),
+    (b"sin", Terminal::Builtin(Builtin::Sin)),
     (b"sub", Terminal::Builtin(Builtin::Sub)),
-    (b"cos", Terminal::Refused),
-    (b"exp", Terminal::Refused),
-    (b"log", Terminal::Refused),
-    (b"sin", Terminal::Refused),
 ];
 
 const FOUR: [(&[u8], Terminal); 7] = [
@@ -125,8 +173,8 @@ const FOUR: [(&[u8], Terminal); 7] = [
     (b"func", Terminal::Function),
     (b"next", Terminal::Jump(Jump::Next)),
     (b"gsub", Terminal::Builtin(Builtin::Gsub)),
-    (b"rand", Terminal::Refused),
-    (b"sqrt", Terminal::Refused),
+    (b"rand", Terminal::Builtin(Builtin::Rand)),
+    (b"sqrt", Terminal::Builtin(Builtin::Sqrt)),
 ];
 
 const FIVE: [(&[u8], Terminal); 10] = [
@@ -134,12 +182,12 @@ const FIVE: [(&[u8], Terminal); 10] = [
     (b"print", Terminal::Print),
     (b"while", Terminal::While),
     (b"break", Terminal::Jump(Jump::Break)),
+    (b"atan2", Terminal::Builtin(Builtin::Atan2)),
     (b"close", Terminal::Builtin(Builtin::Close)),
     (b"index", Terminal::Builtin(Builtin::Index)),
     (b"match", Terminal::Builtin(Builtin::Match)),
     (b"split", Terminal::Builtin(Builtin::Split)),
-    (b"atan2", Terminal::Refused),
-    (b"srand", Terminal::Refused),
+    (b"srand", Terminal::Builtin(Builtin::Srand)),
 ];
 
 const SIX: [(&[u8], Terminal); 7] = [
@@ -177,9 +225,9 @@ fn lookup(mut table: &[(&[u8], Terminal)], word: &[u8]) -> Option<Terminal>
     None
 }
 
-/// What a word of the language is to the grammar. No other text is one.
-fn listed(word: &[u8]) -> Option<Terminal>
-    ensures { result ≡ spec.lookup spec.words word.now }
+/// What a word of the language is to the grammar. No other text is one. Both profiles of numbers have the same words.
+pub fn reserved(word: &[u8]) -> Option<Terminal>
+    ensures { result ≡ spec.reserved word.now }
 {
     match word.len() {
         2 => lookup(&TWO, word),
@@ -193,24 +241,29 @@ fn listed(word: &[u8]) -> Option<Terminal>
     }
 }
 
-fn kind_of(word: Terminal) -> TokenKind
-    ensures { result ≡ spec.kind_of word }
+fn builtin_kind(numbers: Numbers, which: Builtin) -> TokenKind
+    ensures { result ≡ spec.builtin_kind numbers which }
 {
-    match word {
-        Terminal::Builtin(_) => TokenKind::Builtin,
-        Terminal::Refused => TokenKind::Refused,
-        _ => TokenKind::Keyword,
+    match numbers {
+        Numbers::Whole => {
+            if which.is_of_doubles() {
+                TokenKind::Refused
+            } else {
+                TokenKind::Builtin
+            }
+        }
+        Numbers::Double => TokenKind::Builtin,
     }
 }
 
-/// The kind of a word of the language: a keyword, a built-in function, or a function that the
-/// profile leaves out ("Lexical Conventions", rules 7 and 8). No other text has one.
-pub fn reserved(word: &[u8]) -> Option<TokenKind>
-    ensures { result ≡ spec.reserved word.now }
+/// The kind of a word of the language: a keyword, a built-in function, or a function that the profile of numbers leaves
+/// out ("Lexical Conventions", rules 7 and 8).
+pub fn kind_of(numbers: Numbers, word: Terminal) -> TokenKind
+    ensures { result ≡ spec.kind_of numbers word }
 {
-    match listed(word) {
-        Some(found) => Some(kind_of(found)),
-        None => None,
+    match word {
+        Terminal::Builtin(which) => builtin_kind(numbers, which),
+        _ => TokenKind::Keyword,
     }
 }
 
@@ -236,12 +289,12 @@ fn builtin_of(found: Option<Terminal>) -> Terminal
 pub fn as_keyword(text: &[u8]) -> Terminal
     ensures { result ≡ spec.as_keyword text.now }
 {
-    keyword_of(listed(text))
+    keyword_of(reserved(text))
 }
 
 /// What a token of this text is to the grammar whose kind is `Builtin`.
 pub fn as_builtin(text: &[u8]) -> Terminal
     ensures { result ≡ spec.as_builtin text.now }
 {
-    builtin_of(listed(text))
+    builtin_of(reserved(text))
 }

@@ -110,6 +110,11 @@ module _ (depth : ℕ) (inner : Goal → Parser Tree) where
 
   -- ---- built-in functions, behind their word
 
+  -- ( )
+  unfoldable pub of_none : Place → Builtin → Parser Tree
+  of_none place which =
+      one w.OpenParen >> (inside depth (one w.CloseParen) >> pure (t.builtin place which (trees_of [])))
+
   -- ( expr )
   unfoldable pub one_argument : Parser Tree
   one_argument = one w.OpenParen >> (whole >>= λ x. one w.CloseParen >> pure x)
@@ -173,6 +178,7 @@ module _ (depth : ℕ) (inner : Goal → Parser Tree) where
       >> (whole >>= λ x. next_in_list >>= λ y. last_lvalue >>= λ z. pure (t.substitute place all x y (perhaps_of z)))
 
   abbrev pub parameters_by : Place → Builtin → Parameters → Parser Tree
+  parameters_by place which takes.Zero = of_none place which
   parameters_by place which takes.One = of_one place which
   parameters_by place which takes.AtMostOne = of_one_or_none place which
   parameters_by place which takes.Two = of_two place which

@@ -40,6 +40,8 @@ pub struct Run<'a> {
     pub folder: Option<&'a str>,
     /// How many steps the run may take, up to 1,000,000,000,000.
     pub steps: u64,
+    /// What `srand ( )` seeds by, where the words say it.
+    pub seed: Option<u64>,
     /// The text that FS is set to.
     pub separator: Option<&'a str>,
     /// Whether what the script prints is written in blocks.
@@ -337,6 +339,11 @@ fn block_buffered<'a>(alloc: Global) -> Arg<'a> {
     )
 }
 
+fn seed<'a>(alloc: Global) -> Arg<'a> {
+    let help = "The number that srand ( ) seeds by, in place of the time";
+    long_option(alloc, "seed", "N", help)
+}
+
 fn separator<'a>(alloc: Global) -> Arg<'a> {
     let help = "The text that FS is set to before BEGIN";
     option(alloc, "separator", "FS", help).short('F')
@@ -379,6 +386,7 @@ fn run_command<'a>(alloc: Global) -> Result<Command<'a>, AllocError> {
         .arg(report(alloc))?
         .arg(folder(alloc))?
         .arg(steps(alloc))?
+        .arg(seed(alloc))?
         .arg(block_buffered(alloc))?
         .arg(separator(alloc))?
         .arg(assigns(alloc))?;
@@ -490,17 +498,30 @@ fn steps_of(alloc: Global, matches: &ArgMatches<'_>) -> Result<u64, Error> {
     }
 }
 
-fn log_limit_of(alloc: Global, matches: &ArgMatches<'_>) -> Result<u64, Error> {
-    let Some(text) = matches.get_str("log-limit") else {
-        return Ok(u64::MAX);
+// The value of an option of `run` that is any number of 64 bits; where it is not, this is what is said.
+fn long_count_of(
+    alloc: Global,
+    matches: &ArgMatches<'_>,
+    id: &str,
+    fault: &'static str,
+) -> Result<Option<u64>, Error> {
+    let Some(text) = matches.get_str(id) else {
+        return Ok(None);
     };
     match count_of(text, u64::MAX) {
-        Some(limit) => Ok(limit),
-        None => Err(run_fault(
-            alloc,
-            "the value of --log-limit is not a whole number from 0 to 18446744073709551615",
-        )),
+        Some(count) => Ok(Some(count)),
+        None => Err(run_fault(alloc, fault)),
     }
+}
+
+fn log_limit_of(alloc: Global, matches: &ArgMatches<'_>) -> Result<u64, Error> {
+    let fault = "the value of --log-limit is not a whole number from 0 to 18446744073709551615";
+    Ok(long_count_of(alloc, matches, "log-limit", fault)?.unwrap_or(u64::MAX))
+}
+
+fn seed_of(alloc: Global, matches: &ArgMatches<'_>) -> Result<Option<u64>, Error> {
+    let fault = "the value of --seed is not a whole number from 0 to 18446744073709551615";
+    long_count_of(alloc, matches, "seed", fault)
 }
 
 // `clap` lets no other value through.
@@ -616,6 +637,7 @@ fn run_of<'a>(alloc: Global, matches: &ArgMatches<'a>) -> Result<Run<'a>, Error>
         numbers: numbers_of(matches),
         folder: matches.get_str("folder"),
         steps: steps_of(alloc, matches)?,
+        seed: seed_of(alloc, matches)?,
         separator: matches.get_str("separator"),
         is_block_buffered: matches.get_flag("block-buffered"),
         assigns: assigns_of(alloc, matches)?,

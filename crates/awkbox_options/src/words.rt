@@ -41,7 +41,7 @@ enum Next {
 
 const SHORT: [&str; 6] = [SCRIPT, TEXT, LAST, "-v", "-F", "-C"];
 
-const LONG: [&str; 8] = [
+const LONG: [&str; 9] = [
     "--policy",
     "--log",
     "--log-limit",
@@ -50,6 +50,7 @@ const LONG: [&str; 8] = [
     "--steps",
     "--base",
     "--numbers",
+    "--seed",
 ];
 
 // Whether the next word is the value of this one.

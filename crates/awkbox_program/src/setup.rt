@@ -2,6 +2,7 @@
 use awkbox::{Memory, Message, Octets, Seed, Setup};
 use awkbox_options::{Run, names};
 use std::alloc::Global;
+use std::time::{SystemTime, UNIX_EPOCH};
 
 fn octets(alloc: Global, text: &str) -> Result<Octets, Memory> {
     Ok(Octets::of(alloc, text.as_bytes())?)
@@ -29,6 +30,25 @@ fn separator_of(alloc: Global, run: &Run<'_>) -> Result<Option<Octets>, Memory> 
     }
 }
 
+// The seconds since 1970, or 0 where the clock gives none.
+fn seconds(rt: &HostRuntime) -> u64 {
+    let Ok(now) = SystemTime::now(rt) else {
+        return 0;
+    };
+    match now.duration_since(UNIX_EPOCH) {
+        Ok(time) => time.as_secs(),
+        Err(_) => 0,
+    }
+}
+
+// What `srand ( )` seeds by.
+fn random_seed(rt: &HostRuntime, run: &Run<'_>) -> u64 {
+    match run.seed {
+        Some(seed) => seed,
+        None => seconds(rt),
+    }
+}
+
 /// The setup of a run with these operands, or the message that refuses a word of `-v`.
 pub fn setup_of(rt: &HostRuntime, run: &Run<'_>, operands: Vec<Octets>) -> Result<Setup, Message> {
     let alloc = rt.alloc();
@@ -40,7 +60,10 @@ pub fn setup_of(rt: &HostRuntime, run: &Run<'_>, operands: Vec<Octets>) -> Resul
     }
     let seed = Seed::random(rt).unwrap_or(Seed::of(0));
     match Setup::read(operands, names(rt)?, assigns, separator) {
-        Ok(setup) => Ok(setup.numbered(run.numbers).seeded(seed)),
+        Ok(setup) => Ok(setup
+            .numbered(run.numbers)
+            .randomized(random_seed(rt, run))
+            .seeded(seed)),
         // the names ascend, so it is a pair that is refused
         Err(error) => Err(Message::Unspelled(error.pair)),
     }

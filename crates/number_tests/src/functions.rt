@@ -113,7 +113,7 @@ const SINES: &[(&[u8], &[u8])] = &[
     (b"1686629713.0659554", b"0.0007030305841337224"),
 ];
 
-// The last but one is nearest of all doubles to a quarter of a turn.
+// The last but one is the double that is nearest to a whole number of quarters of a turn.
 const COSINES: &[(&[u8], &[u8])] = &[
     (b"0", b"1"),
     (b"0.5", b"0.8775825618903728"),

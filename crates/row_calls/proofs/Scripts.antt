@@ -54,8 +54,9 @@ unfolding fmt.digits escapes.escaped_byte escapes.one_byte escapes.escape_of quo
     scan.gap_len scan.class_len scan.begins_number scan.number scan.word scan.sign scan.first_token input.any input.one
     input.exactly input.many_from word.terminal_of ex.in_name ex.in_names ex.in_rest ex.next_in_list ex.commas ex.list
     ex.perhaps_next ex.list_or_none ex.arguments ex.named ex.field_of ex.lvalue ex.target ex.source ex.getline
-    ex.one_argument ex.of_one ex.of_two ex.last_next ex.of_two_or_three ex.of_list ex.one_or_none ex.of_one_or_none
-    ex.length_of ex.split_of ex.perhaps_lvalue ex.last_lvalue ex.substitute_of ex.builtin ex.in_paren ex.call_of ex.prim
+    ex.of_none ex.one_argument ex.of_one ex.of_two ex.last_next ex.of_two_or_three ex.of_list ex.one_or_none
+    ex.of_one_or_none ex.length_of ex.split_of ex.perhaps_lvalue ex.last_lvalue ex.substitute_of ex.builtin ex.in_paren
+    ex.call_of ex.prim
     ex.step_before ex.signed_by ex.operand ex.step_after ex.inc ex.power_rest ex.unary ex.factor ex.factors
     ex.product_rest ex.addend ex.addends ex.sum_rest ex.part ex.parts ex.concat_rest ex.cat ex.one_pipe ex.pipes
     ex.pipe_rest ex.pipe ex.compare_rest ex.cmp ex.match_rest ex.unary_rest ex.from_paren ex.isin ex.assigned

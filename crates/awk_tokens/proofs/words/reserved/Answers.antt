@@ -1,6 +1,6 @@
 use Rattle.std.proofs.Common.{◌∙◌, arith}
 use Rattle.awk_tokens.proofs.WordLemmas.{listed_at, listed_none}
-use Rattle.awk_tokens.proofs.words.listed.Goals as goal
+use Rattle.awk_tokens.proofs.words.reserved.Goals as goal
 
 pub returns-in-2 : goal.returns-in-2
 returns-in-2 c = c.lookup.ensures ∙ listed_at 2 c.args.word.now c.in-2.is

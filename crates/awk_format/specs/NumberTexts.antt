@@ -1,0 +1,66 @@
+-- The texts of numbers by a format of one number, as OFMT is: POSIX.1-2017, XCU awk, "Variables and Special Variables".
+-- A number without a fraction has its digits, whatever the format is.
+use Rattle.std.specs.Prelude.{ℕ, Bool, true, false, not, ◌&&◌, List, [], ◌∷◌, codes, Result, Ok, Err, if◌then◌else◌}
+use Rattle.std.specs.Float.{Float}
+use Rattle.std.specs.Str.{bytes_eq}
+use Rattle.awk_numbers.specs.declared.number.Numbers.{Numbers}
+use Rattle.awk_numbers.specs.declared.number.Numbers.TheVariants as profile
+use Rattle.awk_numbers.specs.Texts.{is_integral}
+use Rattle.awk_text.specs.declared.fault.Fault.{Fault}
+use Rattle.awk_text.specs.declared.fault.Fault.TheVariants.{Format}
+use Rattle.awk_text.specs.declared.value.Value.{Value}
+use Rattle.awk_text.specs.declared.value.Value.TheVariants.{Real, Text}
+use Rattle.awk_format.specs.declared.directive.Conversion.{Conversion}
+use Rattle.awk_format.specs.declared.directive.Conversion.TheVariants as conversion
+use Rattle.awk_format.specs.declared.directive.Directive.{Directive}
+use Rattle.awk_format.specs.Directives.{◌>>=◌}
+use Rattle.awk_format.specs.Formatted.{Piece, plain, directed, pieces, formatted}
+
+-- the format that the text of a number goes by anyway: whole numbers need none
+unfoldable pub is_usual : Numbers → List ℕ → Bool
+is_usual profile.Whole format = true
+is_usual profile.Double format = bytes_eq format (codes "%.6g")
+
+-- all conversions but those of a text and of a byte
+abbrev pub shows_number : Conversion → Bool
+shows_number conversion.Text = false
+shows_number conversion.Byte = false
+shows_number other = true
+
+-- the conversion specifications among the pieces
+abbrev pub directives : List Piece → List (Result Directive Fault)
+directives [] = []
+directives (plain b ∷ ps) = directives ps
+directives (directed d ∷ ps) = d ∷ directives ps
+
+-- a format of one number has one conversion specification, which shows a number
+abbrev pub is_of_number : List (Result Directive Fault) → Bool
+is_of_number (Ok d ∷ []) = shows_number d.conversion
+is_of_number others = false
+
+-- the same of what is left of them, where one that shows a number stood before it or none did
+abbrev pub is_left : Bool → List (Result Directive Fault) → Bool
+is_left found [] = found
+is_left found (Err e ∷ ds) = false
+is_left found (Ok d ∷ ds) = not found && (shows_number d.conversion && is_left true ds)
+
+-- any other format is F4
+abbrev pub number_text : List ℕ → Float → Result (List ℕ) Fault
+number_text format x =
+    if is_of_number (directives (pieces profile.Double format)) then formatted profile.Double format (Real x ∷ [])
+    else Err Format
+
+abbrev pub shown_real : List ℕ → Float → Result Value Fault
+shown_real format x = if is_integral x then Ok (Real x) else number_text format x >>= λ text. Ok (Text text)
+
+abbrev pub shown : List ℕ → Value → Result Value Fault
+shown format (Real x) = shown_real format x
+shown format other = Ok other
+
+abbrev pub all_shown : List ℕ → List Value → Result (List Value) Fault
+all_shown format [] = Ok []
+all_shown format (x ∷ xs) = shown format x >>= λ y. all_shown format xs >>= λ ys. Ok (y ∷ ys)
+
+-- the values, and of those that are numbers with a fraction the texts
+abbrev pub values_by : Numbers → List ℕ → List Value → Result (List Value) Fault
+values_by numbers format values = if is_usual numbers format then Ok values else all_shown format values
