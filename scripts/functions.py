@@ -71,7 +71,7 @@ def answers(program, name, rows):
     script = f'{{ printf "%.17g\\n", {call} }}'
     with tempfile.TemporaryDirectory() as folder:
         policy = Path(folder, "policy.toml")
-        policy.write_text('default = "deny"\n')
+        policy.write_text('version = 1\nbase = "/"\n')
         words = [program, "run", "--policy", str(policy), "--log", f"{folder}/log", "--numbers", "double"]
         words += ["--steps", "1000000000", "--block-buffered", "-e", script]
         lines = "".join(" ".join(repr(x) for x in row) + "\n" for row in rows)
