@@ -2791,6 +2791,20 @@ script 'BEGIN { x = 1.5; print x + 1e3, 7 / 2, 2 ^ .5; printf "%.2f %d\n", 10 / 
 run --numbers double
 is 0 "1001.5 3.5 1.41421${line}3.33 2$line" "" ""
 verdict "a run with doubles"
+script 'BEGIN { print srand(), srand(), int(rand()) }'
+run --numbers double --seed 7
+is 0 "0 7 0$line" "" ""
+verdict "a script that seeds by --seed"
+script 'BEGIN { srand(); x = srand(); print (x > 1700000000) }'
+run --numbers double
+is 0 "1$line" "" ""
+verdict "a script that seeds by the time"
+for seed in '' x -1 1.5 18446744073709551616; do
+    run --numbers double "--seed=$seed"
+    [ "$status" -eq 3 ] && grep -q '^error: the value of --seed is not a whole number' "$work/errors"
+    verdict "no seed: '$seed'"
+done
+script 'BEGIN { x = 1.5; print x + 1e3, 7 / 2, 2 ^ .5; printf "%.2f %d\n", 10 / 3, 2.9 }'
 for words in '' '--numbers whole' '--numbers=whole'; do
     # shellcheck disable=SC2086
     run $words
