@@ -60,10 +60,12 @@ pub fn setup_of(rt: &HostRuntime, run: &Run<'_>, operands: Vec<Octets>) -> Resul
     }
     let seed = Seed::random(rt).unwrap_or(Seed::of(0));
     match Setup::read(operands, names(rt)?, assigns, separator) {
-        Ok(setup) => Ok(setup
-            .numbered(run.numbers)
-            .randomized(random_seed(rt, run))
-            .seeded(seed)),
+        Ok(setup) => Ok(
+            setup
+                .numbered(run.numbers)
+                .randomized(random_seed(rt, run))
+                .seeded(seed),
+        ),
         // the names ascend, so it is a pair that is refused
         Err(error) => Err(Message::Unspelled(error.pair)),
     }
