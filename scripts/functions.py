@@ -3,8 +3,8 @@
 
 awkbox gives `sqrt exp log sin cos atan2` of N arguments each (100,000), which it reads as lines: of all sizes, near the
 edges of the functions, near multiples of a quarter turn, and the least and largest doubles. Each answer is the C
-library's or the double beside it, and a square root is the C library's own; where that has no finite answer, awkbox
-ends with F1. The last line counts the functions: 'N passed, M failed'."""
+library's or the double beside it, and a square root is the C library's own; of the arguments for which that has no
+finite answer, at 50 awkbox ends with F1. The last line counts the functions: 'N passed, M failed'."""
 import argparse
 import math
 import random
@@ -18,6 +18,10 @@ TOP = Path(__file__).resolve().parent.parent
 BUILT = TOP / "crates/awkbox_program/out/awkbox_program"
 EDGES = [0.0, 5e-324, 2.2250738585072014e-308, 1e-300, 1e-20, 2.0**-27, 0.5, 1.0, 1.5, 2.0, math.pi, 22.0, 355.0, 709.7,
          2.0**19 * math.pi / 2, 1e22, 2.0**1000, 1e308, 1.7976931348623157e308]
+
+# each function with the C library's, how many operands it has, and how many doubles it may be off
+CALLS = [("sqrt", math.sqrt, 1, 0), ("exp", math.exp, 1, 1), ("log", math.log, 1, 1), ("sin", math.sin, 1, 1),
+         ("cos", math.cos, 1, 1), ("atan2", math.atan2, 2, 1)]
 
 
 def any_double(rng):
@@ -107,20 +111,14 @@ def main():
     words.add_argument("--seed", type=int, default=1)
     asked = words.parse_args()
     rng = random.Random(asked.seed)
-    functions = {"sqrt": math.sqrt, "exp": math.exp, "log": math.log, "sin": math.sin, "cos": math.cos}
     failed = 0
-    for name, function in functions.items():
-        rows = [(x,) for x in arguments(rng, asked.count)]
-        fault = held(asked.program, name, function, 0 if name == "sqrt" else 1, rows)
-        failed += fault is not None
+    for name, function, operands, most in CALLS:
+        rows = list(zip(*(arguments(rng, asked.count) for _ in range(operands))))
+        fault = held(asked.program, name, function, most, rows)
         if fault:
             print(f"{name}: {fault}")
-    rows = list(zip(arguments(rng, asked.count), arguments(rng, asked.count)))
-    fault = held(asked.program, "atan2", math.atan2, 1, rows)
-    failed += fault is not None
-    if fault:
-        print(f"atan2: {fault}")
-    print(f"{len(functions) + 1 - failed} passed, {failed} failed")
+            failed += 1
+    print(f"{len(CALLS) - failed} passed, {failed} failed")
     return bool(failed)
 
 

@@ -291,7 +291,7 @@ fn by_logarithm(x: f64, y: f64) -> f64
 }
 
 #[tactic(auto, unfolding(crate::specs::Formula::power))]
-/// A double of more than 0 to the power of another, within one unit in the last place.
+/// A double of more than 0 to the power of another, in tests within one unit in the last place.
 pub(crate) fn power(x: f64, y: f64) -> f64
     ensures { result ≡ power x y }
 {

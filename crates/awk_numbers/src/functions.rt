@@ -16,7 +16,7 @@ pub fn square_root(x: Number) -> Result<Number, NumberFault>
     settle(x.to_double().sqrt())
 }
 
-/// e to the power `x`, within one unit in the last place. Takes no memory.
+/// e to the power `x`, in tests within one unit in the last place. Takes no memory.
 ///
 /// Fails with `NumberFault::OutOfRange` where it is beyond the largest double.
 pub fn exponential(x: Number) -> Result<Number, NumberFault>
@@ -25,7 +25,7 @@ pub fn exponential(x: Number) -> Result<Number, NumberFault>
     settle(natural_power(x.to_double()))
 }
 
-/// The logarithm of `x` to the base e, within one unit in the last place. Takes no memory.
+/// The logarithm of `x` to the base e, in tests within one unit in the last place. Takes no memory.
 ///
 /// Fails with `NumberFault::OutOfRange` where `x` is 0 or less.
 pub fn logarithm(x: Number) -> Result<Number, NumberFault>
@@ -39,7 +39,7 @@ pub fn logarithm(x: Number) -> Result<Number, NumberFault>
     }
 }
 
-/// The sine of an angle in radians, within one unit in the last place. Takes no memory.
+/// The sine of an angle in radians, in tests within one unit in the last place. Takes no memory.
 ///
 /// Fails with `NumberFault::OutOfRange` where `x` is no number.
 pub fn sine(x: Number) -> Result<Number, NumberFault>
@@ -48,7 +48,7 @@ pub fn sine(x: Number) -> Result<Number, NumberFault>
     settle(angles::sine(x.to_double()))
 }
 
-/// The cosine of an angle in radians, within one unit in the last place. Takes no memory.
+/// The cosine of an angle in radians, in tests within one unit in the last place. Takes no memory.
 ///
 /// Fails with `NumberFault::OutOfRange` where `x` is no number.
 pub fn cosine(x: Number) -> Result<Number, NumberFault>
@@ -57,8 +57,8 @@ pub fn cosine(x: Number) -> Result<Number, NumberFault>
     settle(angles::cosine(x.to_double()))
 }
 
-/// The angle of the point (x, y) from -pi to pi, in radians, within one unit in the last place: 0 for (0, 0). Takes no
-/// memory.
+/// The angle of the point (x, y) from -pi to pi, in radians, in tests within one unit in the last place: 0 for (0, 0).
+/// Takes no memory.
 ///
 /// Fails with `NumberFault::OutOfRange` where `x` or `y` is no number.
 pub fn arc_tangent(y: Number, x: Number) -> Result<Number, NumberFault>

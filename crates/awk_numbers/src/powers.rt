@@ -118,8 +118,8 @@ fn some_power(x: Number, y: Number) -> Result<Number, NumberFault>
 }
 
 #[tactic(auto, unfolding(crate::specs::Powers::double_pow))]
-/// `x` to the power `y`, in profile double: exact where both are whole and the power is of a size up to 2^53, else
-/// within one unit in the last place, and one over such a power where `y` is whole and negative. Takes no memory.
+/// `x` to the power `y`, in profile double: exact where both are whole and the power is of a size up to 2^53, else in
+/// tests within one unit in the last place, and one over such a power where `y` is whole and negative. Takes no memory.
 ///
 /// Fails with `NumberFault::ZeroDivisor` where `x` is zero and `y` negative, and with `NumberFault::OutOfRange` where
 /// `x` is negative and `y` has a fraction, or the power is no number.
