@@ -121,6 +121,10 @@ pub view-Signed : (t : Names) (q : Place) (how : Sign) (x : Expr) → view t (e.
 unfolding layer
 view-Signed t q how x = opened t _ _ (e.rolls-Signed q how x)
 
+pub view-AsText : (t : Names) (q : Place) (x : Expr) → view t (e.AsText q x) ≡ p.as_text q (view t x)
+unfolding layer
+view-AsText t q x = opened t _ _ (e.rolls-AsText q x)
+
 pub view-Chain : (t : Names) (x : Expr) (xs : List (Term Expr)) → view t (e.Chain x xs) ≡ p.chain (view t x)
     (terms_of (map (view_term t) xs))
 unfolding layer

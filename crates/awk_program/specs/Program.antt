@@ -34,6 +34,8 @@ mutual
     step : Place → Step → StepValue → Reference → Expression
     not : Expression → Expression
     signed : Place → Sign → Expression → Expression
+    -- an operand of which a text is wanted: of a number with a fraction the text that CONVFMT makes of it
+    as_text : Place → Expression → Expression
     chain : Expression → Terms → Expression
     concat : Expression → Joins → Expression
     compare : Comparison → Expression → Expression → Expression

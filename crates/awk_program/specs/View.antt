@@ -68,6 +68,7 @@ view_step t (Expr-F.Change place how r x) = p.change place how (reference_of t r
 view_step t (Expr-F.Step place how taken r) = p.step place how taken (reference_of t r)
 view_step t (Expr-F.Not x) = p.not x
 view_step t (Expr-F.Signed place how x) = p.signed place how x
+view_step t (Expr-F.AsText place x) = p.as_text place x
 view_step t (Expr-F.Chain x xs) = p.chain x (terms_of xs)
 view_step t (Expr-F.Concat x xs) = p.concat x (joins_of xs)
 view_step t (Expr-F.Compare how x y) = p.compare how x y

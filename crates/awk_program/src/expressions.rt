@@ -77,6 +77,9 @@ pub enum Expr {
     Not(Boxed<Expr>),
     /// `- operand`
     Signed(Place, Sign, Boxed<Expr>),
+    /// An operand of which a text is wanted: of a number with a fraction, the text that CONVFMT makes of it. Only
+    /// scripts with doubles have it.
+    AsText(Place, Boxed<Expr>),
     /// A chain of `+` and `-`, or of `*`, `/` and `%`; or one `^`.
     Chain(Boxed<Expr>, Items<Term<Expr>>),
     /// Operands one directly after the other
