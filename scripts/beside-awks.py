@@ -464,6 +464,7 @@ def add_fractions():
     DIRECTIVES.extend((conversion, "number", ["-", "+", " ", "0", "-+", "#"]) for conversion in "eEfffggG")
     DIRECTIVES.append(("s", "number", ["-"]))
     STATES[:] = [FRACTIONS_STATE]
+    START_ROWS.append("numbers | double")
     LINE_NUMBERS.extend(["1.5", ".25", "-0.75", "1e3", "2.50", "3.0", "+.5", "12.", "1e-2", "0.1", "99.95"])
     # v stands for a number, which is compared with others, so it is no text
     OPTIONS[:] = [option for option in OPTIONS if ("-v", "v=a:1") not in option] + FORMAT_OPTIONS
@@ -764,6 +765,11 @@ OPERANDS = [
     ("-",),
     ("in2", "-"),
 ]
+
+# What each row begins with.
+START_ROWS = ["bound | 100000"]
+
+# What scripts with fractions are started with too.
 FORMAT_OPTIONS = [
     (("-v", "OFMT=%.2f"),),
     (("-v", "CONVFMT=%.3g"),),
@@ -1055,7 +1061,7 @@ def command_rows(case):
 
 
 def start_rows(case):
-    yield "bound | 100000"
+    yield from START_ROWS
     for option, text in case.options:
         name, _, value = text.partition("=")
         words = ["separator", text] if option == "-F" else ["assign", name, value]
