@@ -25,6 +25,7 @@ pub fn constant(e: &Expr) -> Option<&Octets>
 {
     match e {
         Expr::Text(text) => Some(text),
+        Expr::AsText(_, _) => None,
         Expr::Number(_)
         | Expr::Pattern(_, _)
         | Expr::Read(_)
@@ -160,6 +161,7 @@ fn expression(alloc: Global, e: &Expr, level: u64, out: &mut Vec<Found>) -> Resu
         Expr::Step(_place, _how, _taken, r) => target(alloc, r, below, out),
         Expr::Not(x) => expression(alloc, x.get(), below, out),
         Expr::Signed(_place, _how, x) => expression(alloc, x.get(), below, out),
+        Expr::AsText(_place, x) => expression(alloc, x.get(), below, out),
         Expr::Chain(x, xs) => {
             expression(alloc, x.get(), below, out)?;
             terms(alloc, xs.as_slice(), below, out)
