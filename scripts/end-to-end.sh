@@ -1819,6 +1819,10 @@ script 'BEGIN { exit 2 }'
 run -- in/a
 ! grep -q '^awkbox: note: ' "$work/errors"
 verdict "no note: each operand can be opened"
+script 'BEGIN { r = (getline x < "in/folder"); print r }'
+run
+is 0 "-1$line" "" ""
+verdict "a reading that fails is not the end"
 rmdir in/folder
 
 # Listings and verdicts.

@@ -2,6 +2,8 @@
 use Rattle.std.proofs.Common.{◌≡◌, ℕ, zero, suc, ◌+◌, ◌<◌, Bool, true, false, not, ◌&&◌, List, [], ◌∷◌, length, drop}
 use Rattle.std.proofs.Common.{◌++◌, append_assoc, get_or, Result, Ok, Err, refl, sym, ap, subst, ◌∙◌, length-drop, arith}
 use Rattle.std.specs.List.{position_or_len}
+use Rattle.std.specs.Option.{option_to_list}
+use Rattle.std.specs.Prelude.{Option}
 use Rattle.awk_numbers.specs.declared.number.Numbers.{Numbers}
 use Rattle.awk_text.specs.declared.fault.Fault.{Fault}
 use Rattle.awk_text.specs.declared.value.Value.{Value}
@@ -45,15 +47,27 @@ one_left found d ds e f = rw e (rw f refl)
 
 -- ---- a turn of the loop
 
+pub next_directives : (numbers : Numbers) (text back inner : List ℕ) (n : ℕ)
+    → n ≡ position_or_len is_percent text → back ≡ drop n text → 0 < length back → inner ≡ drop 1 back
+    → directives (pieces numbers (0x25 ∷ inner)) ≡ directives (pieces numbers text)
+next_directives numbers text back inner n e back_is some inner_is =
+    let some' : 0 < length (drop n text) = omega (arith, some, ap length back_is) in
+    ap (λ t. directives (pieces numbers t)) (ap (λ t. 0x25 ∷ t) (inner_is ∙ ap (drop 1) back_is)
+    ∙ sym (percent_at text n e some'))
+    ∙ ap (λ m. directives (pieces numbers (drop m text))) e
+    ∙ sym (passed numbers text)
+
 pub next_left : (numbers : Numbers) (found : Bool) (text back inner : List ℕ) (n : ℕ)
     → n ≡ position_or_len is_percent text → back ≡ drop n text → 0 < length back → inner ≡ drop 1 back
     → is_left found (directives (pieces numbers (0x25 ∷ inner))) ≡ is_left found (directives (pieces numbers text))
 next_left numbers found text back inner n e back_is some inner_is =
-    let some' : 0 < length (drop n text) = omega (arith, some, ap length back_is) in
-    ap (λ t. is_left found (directives (pieces numbers t))) (ap (λ t. 0x25 ∷ t) (inner_is ∙ ap (drop 1) back_is)
-    ∙ sym (percent_at text n e some'))
-    ∙ ap (λ m. is_left found (directives (pieces numbers (drop m text)))) e
-    ∙ ap (is_left found) (sym (passed numbers text))
+    ap (is_left found) (next_directives numbers text back inner n e back_is some inner_is)
+
+pub wanted_next : (before : List Bool) (w : Option Bool) (here left rest whole : List Bool)
+    → here ≡ option_to_list w ++ left → here ≡ rest → before ++ rest ≡ whole
+    → (before ++ option_to_list w) ++ left ≡ whole
+wanted_next before w here left rest whole e f h =
+    append_assoc before (option_to_list w) left ∙ ap (λ t. before ++ t) (sym e ∙ f) ∙ h
 
 -- ---- values one after the other
 

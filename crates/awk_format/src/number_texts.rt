@@ -1,20 +1,23 @@
-// Numbers as texts by a format of one number, as OFMT is.
-ghost use Rattle.std.specs.Prelude.{◌≡◌, ◌∷◌, ◌≤◌, ◌⊎◌, IfErr, IfOk, IfSome, IsNone, Err, Ok, false, length};
+// Numbers as texts by a format of one number, as OFMT and CONVFMT are.
+ghost use Rattle.std.specs.Prelude.{[], ◌++◌, ◌≡◌, ◌∷◌, ◌≤◌, ◌⊎◌, IfErr, IfOk, IfSome, IsNone, Err, Ok, false, length};
+ghost use Rattle.std.specs.Option.{option_to_list};
 ghost use Rattle.awk_numbers.specs.declared.number.Numbers.TheVariants as profile;
 ghost use Rattle.awk_format.specs.Formatted.{pieces};
 ghost use Rattle.awk_format.specs.NumberTexts.{all_shown, directives, is_of_number, is_usual, number_text, shown};
-ghost use Rattle.awk_format.specs.NumberTexts.{is_left, shown_real, shows_number};
+ghost use Rattle.awk_format.specs.NumberTexts.{formatted_with, is_left, shown_if, shown_real, shown_where, shows_number};
+ghost use Rattle.awk_format.specs.NumberTexts.{shows_text};
+ghost use Rattle.awk_format.specs.NumberTexts.{value_by, wants_texts};
 
 use crate::directive::{Conversion, read_directive};
 use crate::{begins_with_percent, format, plain_length};
 use awk_numbers::number::Numbers;
 use awk_numbers::texts::is_integral;
+use awk_text::Memory;
 use awk_text::fault::Fault;
 use awk_text::octets::Octets;
 use awk_text::value::Value;
 use std::alloc::Global;
 
-#[tactic(auto, unfolding(crate::specs::NumberTexts::is_usual))]
 /// Whether numbers go by this format anyway: whole ones need none, and `%.6g` is how a double has a text.
 pub fn is_usual(numbers: Numbers, format: &[u8]) -> bool
     ensures { result ≡ is_usual numbers format.now }
@@ -120,4 +123,127 @@ pub fn all_shown(alloc: Global, by: &[u8], values: &[Value]) -> Result<Vec<Value
         made.push(shown(alloc, by, value)?)?;
     }
     Ok(made)
+}
+
+/// The value, and of a number with a fraction its text by the format, which has one conversion specification of a
+/// number: a text is wanted. POSIX.1-2017, XCU awk, "Expressions in awk", CONVFMT.
+///
+/// Fails as `all_shown` does.
+pub fn value_by(alloc: Global, numbers: Numbers, by: &[u8], value: Value) -> Result<Value, Fault>
+    ensures ok { IfOk result (λ made. value_by numbers by.now value ≡ Ok made) }
+    ensures err { IfErr result (λ e. (e ≡ Fault.Memory) ⊎ (value_by numbers by.now value ≡ Err e)) }
+{
+    match value {
+        Value::Real(x) => {
+            if is_usual(numbers, by) {
+                return Ok(Value::Real(x));
+            }
+            shown_real(alloc, by, x)
+        }
+        other => Ok(other),
+    }
+}
+
+fn shows_text(conversion: Conversion) -> bool
+    ensures { result ≡ shows_text conversion }
+{
+    matches!(conversion, Conversion::Text)
+}
+
+/// Of what stands behind a `%`: whether it is a conversion specification of a text, unless it is another `%`; and what
+/// is left of the text.
+fn text_wanted(numbers: Numbers, text: &[u8]) -> Option<(Option<bool>, &[u8])>
+    ensures some { IfSome result (λ r. wants_texts (directives (pieces numbers (0x25 ∷ text.now)))
+        ≡ option_to_list r.0 ++ wants_texts (directives (pieces numbers r.1.now))) }
+    ensures shorter { IfSome result (λ r. length r.1.now ≤ length text.now) }
+    ensures none { IsNone result → wants_texts (directives (pieces numbers (0x25 ∷ text.now))) ≡ [] }
+{
+    if begins_with_percent(text) {
+        return Some((None, &text[1..]));
+    }
+    let Ok((directive, rest)) = read_directive(numbers, text) else {
+        return None;
+    };
+    Some((Some(shows_text(directive.conversion)), rest))
+}
+
+/// Of each conversion specification of a format whether it shows a text, up to the first that is none.
+fn texts_wanted(alloc: Global, numbers: Numbers, format: &[u8]) -> Result<Vec<bool>, Memory>
+    ensures { IfOk result (λ wants. wants.items ≡ wants_texts (directives (pieces numbers format.now))) }
+{
+    let mut wants = Vec::new(alloc);
+    let mut rest = format;
+    while !rest.is_empty() {
+        let (_, after) = rest.split_at(plain_length(rest));
+        rest = after;
+        if let [_, text @ ..] = after {
+            let Some((wanted, others)) = text_wanted(numbers, text) else {
+                return Ok(wants);
+            };
+            if let Some(is_text) = wanted {
+                wants.push(is_text)?;
+            }
+            rest = others;
+        }
+    }
+    Ok(wants)
+}
+
+/// The value, and where a text is wanted, of a number with a fraction its text by the format.
+fn shown_if(alloc: Global, is_text: bool, by: &[u8], value: &Value) -> Result<Value, Fault>
+    ensures ok { IfOk result (λ made. shown_if is_text by.now value.now ≡ Ok made) }
+    ensures err { IfErr result (λ e. (e ≡ Fault.Memory) ⊎ (shown_if is_text by.now value.now ≡ Err e)) }
+{
+    if is_text {
+        shown(alloc, by, value)
+    } else {
+        Ok(value.copy(alloc)?)
+    }
+}
+
+/// The values once more, and where texts are wanted, of numbers with a fraction their texts by the format.
+fn shown_where(
+    alloc: Global,
+    by: &[u8],
+    wants: &[bool],
+    values: &[Value],
+) -> Result<Vec<Value>, Fault>
+    ensures ok { IfOk result (λ made. shown_where by.now wants.now values.now ≡ Ok made.items) }
+    ensures err { IfErr result (λ e. (e ≡ Fault.Memory) ⊎ (shown_where by.now wants.now values.now ≡ Err e)) }
+{
+    let mut made = Vec::with_capacity(alloc, values.len())?;
+    let mut wanted = wants;
+    for value in values {
+        let (is_text, others) = match wanted {
+            [first, others @ ..] => (*first, others),
+            [] => (false, wanted),
+        };
+        made.push(shown_if(alloc, is_text, by, value)?)?;
+        wanted = others;
+    }
+    Ok(made)
+}
+
+/// What [`format`](crate::format()) makes, where a number with a fraction that the format shows as a text goes by
+/// another format, `by`, of one number, as CONVFMT is.
+///
+/// Fails with `Fault::Format` where that one is none of one number and a value needs it, and else as
+/// [`format`](crate::format()) does.
+pub fn format_with(
+    alloc: Global,
+    numbers: Numbers,
+    by: &[u8],
+    text: &[u8],
+    values: &[Value],
+) -> Result<Vec<u8>, Fault>
+    ensures ok { IfOk result (λ made. formatted_with numbers by.now text.now values.now ≡ Ok made.items) }
+    ensures err { IfErr result
+        (λ e. (e ≡ Fault.Memory) ⊎ (formatted_with numbers by.now text.now values.now ≡ Err e)) }
+{
+    if is_usual(numbers, by) {
+        return format(alloc, numbers, text, values);
+    }
+    let wants = texts_wanted(alloc, numbers, text)?;
+    let shown = shown_where(alloc, by, wants.as_slice(), values)?;
+    format(alloc, numbers, text, shown.as_slice())
 }

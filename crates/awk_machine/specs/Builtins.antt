@@ -18,7 +18,7 @@ use Rattle.awk_text.specs.Faults.{or_fault}
 use Rattle.awk_text.specs.Values.{text_of, number_of, of_number}
 use Rattle.awk_fields.specs.Separators.{separator, ere}
 use Rattle.awk_format.specs.Directives.{◌>>=◌}
-use Rattle.awk_format.specs.Formatted.{formatted}
+use Rattle.awk_format.specs.NumberTexts.{formatted_with}
 use Rattle.box_world.specs.declared.ask.Reply.{Reply}
 use Rattle.box_world.specs.declared.ask.Reply.TheVariants as reply
 use Rattle.box_world.specs.Events.{Runs, open_streams}
@@ -42,7 +42,7 @@ use Rattle.awk_machine.specs.Pieces.{Split, Close, Run, Then, Goes, Seeks, Asks,
 use Rattle.awk_machine.specs.Questions.{Finds, places}
 use Rattle.awk_machine.specs.Streams.{want}
 use Rattle.awk_machine.specs.Targets.{target, check_separator}
-use Rattle.awk_machine.specs.Variables.{with_own, with_array}
+use Rattle.awk_machine.specs.Variables.{own_text, with_own, with_array}
 
 -- ---- what the values of plain arguments make
 
@@ -84,11 +84,11 @@ abbrev pub first : List Value → Value
 first [] = v.Unset
 first (x ∷ xs) = x
 
-abbrev pub formatted_by : Numbers → List Value → Result Text Fault
-formatted_by numbers vs = formatted numbers (text_of (first vs)) (drop 1 vs)
+abbrev pub formatted_by : State → List Value → Result Text Fault
+formatted_by s vs = formatted_with s.numbers (own_text s (codes "CONVFMT")) (text_of (first vs)) (drop 1 vs)
 
-abbrev pub formatted_text : Numbers → List Value → Result Value Fault
-formatted_text numbers vs = formatted_by numbers vs >>= λ text. Ok (v.Text text)
+abbrev pub formatted_text : State → List Value → Result Value Fault
+formatted_text s vs = formatted_by s vs >>= λ text. Ok (v.Text text)
 
 -- ---- what each function comes to, one line a function: a value or its fault, a task that gives the value, or a value
 -- and the sequence of random numbers behind it
@@ -122,7 +122,7 @@ effect place b.Length vs s = gives (of_count (length (text_at vs 0)))
 effect place b.Log vs s = Gives (of_one logarithm s.numbers (argument vs 0))
 effect place b.Rand vs s = draws s.random
 effect place b.Sin vs s = Gives (of_one sine s.numbers (argument vs 0))
-effect place b.Sprintf vs s = Gives (formatted_text s.numbers vs)
+effect place b.Sprintf vs s = Gives (formatted_text s vs)
 effect place b.Sqrt vs s = Gives (of_one square_root s.numbers (argument vs 0))
 effect place b.Srand vs s = seeds (seed_in s.numbers vs) s.random
 effect place b.Substr vs s = Gives (substr_of s.numbers vs)

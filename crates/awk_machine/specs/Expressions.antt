@@ -21,7 +21,7 @@ use Rattle.awk_machine.specs.Operators.{of_truth, of_count, computed, signed, st
 use Rattle.awk_machine.specs.Pieces.{Part, Target_of, Terms_of, Texts_of, Ands_of, Ors_of, Members_of, Pipes_of, At, Do}
 use Rattle.awk_machine.specs.Pieces.{Get, Set, Check, Match, Give, Then, Goes, give, granted}
 use Rattle.awk_machine.specs.Targets.{target, field_of, store}
-use Rattle.awk_machine.specs.Variables.{array}
+use Rattle.awk_machine.specs.Variables.{array, by_convfmt}
 
 -- ---- what is read or set
 
@@ -108,6 +108,7 @@ step_value (p.not x) part vs k s =
     unary (value x) part (λ y k s. answer (of_truth (not (truth s.numbers y))) k s) vs k s
 step_value (p.signed place how x) part vs k s =
     unary (value x) part (λ y k s. deliver place (signed s.numbers how y) k s) vs k s
+step_value (p.as_text place x) part vs k s = unary (value x) part (λ y k s. deliver place (by_convfmt s y) k s) vs k s
 step_value (p.chain x xs) part vs k s = Goes (value x ∷ At (Terms_of xs) [] ∷ k) s
 step_value (p.concat x xs) part vs k s = Goes (value x ∷ At (Texts_of xs) [] ∷ k) s
 step_value (p.compare how x y) part vs k s =

@@ -8,6 +8,8 @@ use Rattle.awk_text.specs.declared.fault.Fault.{Fault}
 use Rattle.awk_text.specs.declared.fault.Fault.TheVariants.{Output}
 use Rattle.awk_text.specs.Values.{text_of}
 use Rattle.awk_fields.specs.Rows.{joined}
+use Rattle.awk_format.specs.Directives.{◌>>=◌}
+use Rattle.awk_format.specs.NumberTexts.{values_by}
 use Rattle.box_world.specs.declared.ask.Mode.{Mode}
 use Rattle.box_world.specs.declared.ask.Mode.TheVariants as mode
 use Rattle.box_world.specs.declared.ask.Reply.{Reply}
@@ -32,8 +34,12 @@ items s [] = v.Input s.row.whole ∷ []
 items s (x ∷ xs) = x ∷ xs
 
 -- the items' texts with OFS between, and ORS
+abbrev pub line_of : State → List Value → Result Text Fault
+line_of s vs = limited (joined (own_text s (codes "OFS")) vs ++ own_text s (codes "ORS"))
+
+-- numbers with a fraction have the texts that OFMT makes of them
 abbrev pub printed : State → List Value → Result Text Fault
-printed s vs = limited (joined (own_text s (codes "OFS")) (items s vs) ++ own_text s (codes "ORS"))
+printed s vs = values_by s.numbers (own_text s (codes "OFMT")) (items s vs) >>= line_of s
 
 -- ---- the stream
 

@@ -150,7 +150,7 @@ delete_all a k s = Goes k (with_array a [] s)
 abbrev pub do_statement : Statement → Part → List Value → Then
 do_statement (p.plain x) part vs k s = unary (value x) part (λ v k s. Goes k s) vs k s
 do_statement (p.print place xs r) part vs k s = print_by printed place xs r part vs k s
-do_statement (p.printf place x xs r) part vs k s = print_by (λ s. formatted_by s.numbers) place (x ∷ xs) r part vs k s
+do_statement (p.printf place x xs r) part vs k s = print_by formatted_by place (x ∷ xs) r part vs k s
 do_statement (p.delete place a xs) part vs k s = delete place a xs part vs k s
 do_statement (p.delete_all a) part vs k s = delete_all a k s
 do_statement (p.jump which) part vs k s = jump which k s

@@ -1,11 +1,13 @@
 -- What variables hold: those of the whole script go by their names, and parameters by their places
 -- (POSIX.1-2017 XCU awk, "User-Defined Functions", "Variables and Special Variables").
 use Rattle.std.specs.Prelude.{Bool, false, if◌then◌else◌, [], codes, slice_get, slice_index_or, slice_set, Option, Some}
-use Rattle.std.specs.Prelude.{None, unwrap_or, option_map}
+use Rattle.std.specs.Prelude.{None, unwrap_or, option_map, Result}
 use Rattle.std.specs.Str.{bytes_eq}
 use Rattle.awk_text.specs.declared.value.Value.{Value}
 use Rattle.awk_text.specs.declared.value.Value.TheVariants as v
+use Rattle.awk_text.specs.declared.fault.Fault.{Fault}
 use Rattle.awk_text.specs.Values.{text_of}
+use Rattle.awk_format.specs.NumberTexts.{value_by}
 use Rattle.awk_program.specs.Slots.{Text}
 use Rattle.awk_program.specs.Program.{Variable, global, parameter}
 use Rattle.awk_machine.specs.State.{Array, State, Bound, Scalar, Handed, Reference, Shared, Made}
@@ -27,6 +29,10 @@ own_value s name = unwrap_or (s.values name) v.Unset
 -- the text of one that awk sets
 abbrev pub own_text : State → Text → Text
 own_text s name = text_of (own_value s name)
+
+-- a value of which a text is wanted: of a number with a fraction the text that CONVFMT makes of it now
+abbrev pub by_convfmt : State → Value → Result Value Fault
+by_convfmt s x = value_by s.numbers (own_text s (codes "CONVFMT")) x
 
 abbrev pub bound_value : Bound → Value
 bound_value (Scalar v) = v

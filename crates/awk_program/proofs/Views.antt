@@ -324,6 +324,7 @@ pub ruleset views = (
   view-Step,
   view-Not,
   view-Signed,
+  view-AsText,
   view-Chain,
   view-Concat,
   view-Compare,
