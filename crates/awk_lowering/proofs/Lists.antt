@@ -1,6 +1,6 @@
 -- Lists of trees, and lists of what is handed on and of getlines, one by one.
-use Rattle.std.proofs.Common.{◌≡◌, ◌∙◌, ℕ, zero, suc, ◌+◌, ◌-◌, ◌<◌, ◌≤◌, Bool, List, [], ◌∷◌, ◌++◌, map, Result, Some, length}
-use Rattle.std.proofs.Common.{get_or, drop, take, option_map, ap, sym, refl, arith}
+use Rattle.std.proofs.Common.{◌≡◌, ◌∙◌, ℕ, zero, suc, ◌+◌, ◌-◌, ◌<◌, ◌≤◌, Bool, List, [], ◌∷◌, ◌++◌, map, Result, Some}
+use Rattle.std.proofs.Common.{length, get_or, drop, take, option_map, ap, sym, refl, arith}
 use Rattle.awk_tree.specs.Tree as t
 use Rattle.awk_tree.specs.Tree.{Tree, Trees, trees_of, perhaps_of, terms_of, pipes_of}
 use Rattle.awk_tree.specs.View as tree
@@ -20,8 +20,9 @@ use Rattle.awk_program.specs.Program as p
 use Rattle.awk_program.specs.Program.{Expressions, Pipes, Arguments, expressions_of, joins_of}
 use Rattle.awk_program.specs.View.{Names, variable_of, view, view_target, view_pipes, view_arguments}
 use Rattle.awk_lowering.specs.Forms.{called, operator_of, plain_builtin, unwritten}
-use Rattle.awk_lowering.specs.Lowered.{built, located, plain, lowered, lowered_list, lowered_terms, lowered_joins}
-use Rattle.awk_lowering.specs.Lowered.{lowered_text, lowered_pipes, target_or_record, arguments, argument, takes_array, later}
+use Rattle.awk_lowering.specs.Lowered.{built, located, plain, lowered, lowered_text, lowered_list, lowered_terms}
+use Rattle.awk_lowering.specs.Lowered.{lowered_joins, lowered_pipes, target_or_record, arguments, argument, takes_array}
+use Rattle.awk_lowering.specs.Lowered.{later}
 use Rattle.awk_lowering.specs.LoweredStatements.{statement, statements}
 use Rattle.awk_lowering.specs.Made.{with_argument, IsArgument, IsPiped}
 use Rattle.awk_lowering.specs.OneByOne.{first_lowered, lowered_term, lowered_join, then_pipes, then_arguments}

@@ -97,11 +97,11 @@ row_joined : lowered of_doubles (t.concat (t.name (name 1 (codes "x"))) (t.more 
     ≡ p.concat (x_text 1) (p.join (at 3) (p.text (codes "-")) (p.join (at 7) (x_text 7) p.no_joins))
 row_joined = refl
 
--- a[x, 1] = x
+-- a[x, "j"] = x
 row_keys : lowered of_doubles (t.assign (t.element (name 1 (codes "a"))
-    (t.more (t.name (name 3 (codes "x"))) (t.more (t.number (at 6) (codes "1")) t.none))) (at 9) assignment.Set
-    (t.name (name 11 (codes "x"))))
-    ≡ p.assign (at 9) (p.element (at 1) (p.global (codes "a")) (p.more (x_text 1) (p.more (p.number (Whole (pos 1)))
+    (t.more (t.name (name 3 (codes "x"))) (t.more (t.quoted (at 6) (codes "j")) t.none))) (at 11) assignment.Set
+    (t.name (name 13 (codes "x"))))
+    ≡ p.assign (at 11) (p.element (at 1) (p.global (codes "a")) (p.more (x_text 1) (p.more (p.text (codes "j"))
     p.none))) (p.read (p.variable (p.parameter 0)))
 row_keys = refl
 

@@ -415,12 +415,8 @@ fn called(
     match args {
         [] => without_arguments(context.alloc, place, which),
         [_, ..] => {
-            let count = texts_wanted(which);
-            builtin_of(
-                place,
-                which,
-                first_texts(context, place, count, args, level),
-            )
+            let xs = first_texts(context, place, texts_wanted(which), args, level);
+            builtin_of(place, which, xs)
         }
     }
 }

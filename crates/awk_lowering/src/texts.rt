@@ -36,7 +36,6 @@ fn may_be_fraction(e: &Expr) -> bool
     match e {
         Expr::Number(number) => is_real(*number),
         Expr::Text(_) | Expr::Concat(_, _) => false,
-        Expr::AsText(_, _) => true,
         Expr::Pattern(_, _)
         | Expr::Read(_)
         | Expr::Assign(_, _, _)
@@ -44,6 +43,7 @@ fn may_be_fraction(e: &Expr) -> bool
         | Expr::Step(_, _, _, _)
         | Expr::Not(_)
         | Expr::Signed(_, _, _)
+        | Expr::AsText(_, _)
         | Expr::Chain(_, _)
         | Expr::Compare(_, _, _)
         | Expr::Match(_, _, _)

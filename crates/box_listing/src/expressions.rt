@@ -25,7 +25,6 @@ pub fn constant(e: &Expr) -> Option<&Octets>
 {
     match e {
         Expr::Text(text) => Some(text),
-        Expr::AsText(_, _) => None,
         Expr::Number(_)
         | Expr::Pattern(_, _)
         | Expr::Read(_)
@@ -34,6 +33,7 @@ pub fn constant(e: &Expr) -> Option<&Octets>
         | Expr::Step(_, _, _, _)
         | Expr::Not(_)
         | Expr::Signed(_, _, _)
+        | Expr::AsText(_, _)
         | Expr::Chain(_, _)
         | Expr::Concat(_, _)
         | Expr::Compare(_, _, _)

@@ -280,8 +280,8 @@ called-returns-in-len1-up t c =
     rw (
       called_some (scope_in c.args.context.now) c.args.place c.args.which (texts_wanted c.args.which) c.args.args.now
           c.in-len1-up.len_at_least,
-      ← c.texts_wanted-count.ensures,
-    ) (c.builtin_of.ensures _ _ c.first_texts.ensures)
+      ← c.texts_wanted.ensures,
+    ) (c.builtin_of.ensures _ _ c.first_texts-xs.ensures)
 
 pub located-returns-in-empty : goal.located-returns-in-empty
 located-returns-in-empty t c =

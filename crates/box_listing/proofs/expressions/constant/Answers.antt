@@ -1,5 +1,5 @@
 use Rattle.std.proofs.Common.{arith, refl}
-use Rattle.awk_program.proofs.Views.{view-AsText, view-Text, views}
+use Rattle.awk_program.proofs.Views.{view-Text, views}
 use Rattle.box_listing.proofs.expressions.constant.Goals as goal
 
 pub returns-in-Text : goal.returns-in-Text
@@ -7,6 +7,3 @@ returns-in-Text c = λ n. rw (c.in-Text.is, view-Text) refl
 
 pub returns-in-Number : goal.returns-in-Number
 returns-in-Number c = λ n. let h = c.in-Number.is in grind (arith, views)
-
-pub returns-in-AsText : goal.returns-in-AsText
-returns-in-AsText c = λ n. rw (c.in-AsText.is, view-AsText) refl
