@@ -1,6 +1,6 @@
 -- Lists of trees, and lists of what is handed on and of getlines, one by one.
-use Rattle.std.proofs.Common.{◌≡◌, ◌∙◌, ℕ, ◌+◌, ◌-◌, ◌<◌, ◌≤◌, Bool, List, [], ◌∷◌, ◌++◌, map, Result, Some, length}
-use Rattle.std.proofs.Common.{get_or, drop, take, option_map, ap, sym, refl, arith}
+use Rattle.std.proofs.Common.{◌≡◌, ◌∙◌, ℕ, zero, suc, ◌+◌, ◌-◌, ◌<◌, ◌≤◌, Bool, List, [], ◌∷◌, ◌++◌, map, Result, Some}
+use Rattle.std.proofs.Common.{length, get_or, drop, take, option_map, ap, sym, refl, arith}
 use Rattle.awk_tree.specs.Tree as t
 use Rattle.awk_tree.specs.Tree.{Tree, Trees, trees_of, perhaps_of, terms_of, pipes_of}
 use Rattle.awk_tree.specs.View as tree
@@ -20,27 +20,28 @@ use Rattle.awk_program.specs.Program as p
 use Rattle.awk_program.specs.Program.{Expressions, Pipes, Arguments, expressions_of, joins_of}
 use Rattle.awk_program.specs.View.{Names, variable_of, view, view_target, view_pipes, view_arguments}
 use Rattle.awk_lowering.specs.Forms.{called, operator_of, plain_builtin, unwritten}
-use Rattle.awk_lowering.specs.Lowered.{built, located, plain, lowered, lowered_list, lowered_terms, lowered_joins}
-use Rattle.awk_lowering.specs.Lowered.{lowered_pipes, target_or_record, arguments, argument, takes_array, later}
+use Rattle.awk_lowering.specs.Lowered.{built, located, plain, lowered, lowered_text, lowered_list, lowered_terms}
+use Rattle.awk_lowering.specs.Lowered.{lowered_joins, lowered_pipes, target_or_record, arguments, argument, takes_array}
+use Rattle.awk_lowering.specs.Lowered.{later}
 use Rattle.awk_lowering.specs.LoweredStatements.{statement, statements}
 use Rattle.awk_lowering.specs.Made.{with_argument, IsArgument, IsPiped}
-use Rattle.awk_lowering.specs.OneByOne.{lowered_term, lowered_join, then_pipes, then_arguments}
+use Rattle.awk_lowering.specs.OneByOne.{first_lowered, lowered_term, lowered_join, then_pipes, then_arguments}
 use Rattle.awk_lowering.specs.Scopes.{Scope}
 use Rattle.awk_lowering.specs.Starts.{start}
+use Rattle.awk_lowering.specs.Texts.{first_textuals}
 use Rattle.awk_lowering.proofs.Carried.{Pushed, drop_here, take_all}
-
-pub list_is : (c : Scope) (xs : List Tree) → lowered_list c (trees_of xs) ≡ expressions_of (map (lowered c) xs)
-list_is c [] = refl
-list_is c (x ∷ xs) = ap (λ ys. p.more (lowered c x) ys) (list_is c xs)
+use Rattle.awk_lowering.proofs.Wanted.{list_is, firsts_are}
 
 -- ---- built-in functions
 
-pub called_some : (c : Scope) (q : Place) (which : Builtin) (xs : List tree_expr.Expr) → 1 ≤ length xs →
-    called q which (lowered_list c (trees_of (map tree.view xs))) ≡ p.builtin q which
-    (expressions_of (map (lowered c) (map tree.view xs)))
-called_some c q which [] some = absurd (omega (arith, some))
-called_some c q which (x ∷ xs) some = ap (λ ys. p.builtin q which (p.more (lowered c (tree.view x)) ys))
+pub called_some : (c : Scope) (q : Place) (which : Builtin) (n : ℕ) (xs : List tree_expr.Expr) → 1 ≤ length xs →
+    called q which (first_textuals c.numbers q n (lowered_list c (trees_of (map tree.view xs))))
+    ≡ p.builtin q which (expressions_of (first_lowered c q n (map tree.view xs)))
+called_some c q which n [] some = absurd (omega (arith, some))
+called_some c q which zero (x ∷ xs) some = ap (λ ys. p.builtin q which (p.more (lowered c (tree.view x)) ys))
     (list_is c (map tree.view xs))
+called_some c q which (suc n) (x ∷ xs) some =
+    ap (λ ys. p.builtin q which (p.more (lowered_text c q (tree.view x)) ys)) (firsts_are c q n (map tree.view xs))
 
 pub plainly : (c : Scope) (q : Place) (which : tree_builtin.Builtin) (runs : Builtin) (xs : Trees) (us : Expressions)
     → plain_builtin which ≡ Some runs → built c q which xs us ≡ plain c q (Some runs) xs us
@@ -62,7 +63,7 @@ terms_are c (x ∷ xs) = ap (λ ys. p.term (operator_of x.operator) x.place (low
 
 pub joins_are : (c : Scope) (xs : List Tree) → lowered_joins c (trees_of xs) ≡ joins_of (map (lowered_join c) xs)
 joins_are c [] = refl
-joins_are c (x ∷ xs) = ap (λ ys. p.join (start x) (lowered c x) ys) (joins_are c xs)
+joins_are c (x ∷ xs) = ap (λ ys. p.join (start x) (lowered_text c (start x) x) ys) (joins_are c xs)
 
 -- ---- what is handed to a function
 

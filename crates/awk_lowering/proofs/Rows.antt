@@ -9,12 +9,15 @@ use Rattle.awk_tree.specs.declared.names.Name.{Name}
 use Rattle.awk_tree.specs.declared.operators.Arithmetic.TheVariants as arithmetic
 use Rattle.awk_tokens.specs.declared.terminals.Assignment.TheVariants as assignment
 use Rattle.awk_tree.specs.declared.operators.Sign.TheVariants as tree_sign
+use Rattle.awk_tokens.specs.declared.words.Builtin.TheVariants as b
 use Rattle.awk_tokens.specs.declared.terminals.Step.TheVariants as tree_step
 use Rattle.awk_program.specs.declared.operators.Operator.TheVariants as operator
 use Rattle.awk_program.specs.declared.operators.Sign.TheVariants as sign
 use Rattle.awk_program.specs.declared.operators.Step.TheVariants as step
 use Rattle.awk_program.specs.declared.operators.StepValue.TheVariants as taken
+use Rattle.awk_program.specs.declared.builtins.Builtin.TheVariants as f
 use Rattle.awk_program.specs.Program as p
+use Rattle.awk_program.specs.Program.{Expression}
 use Rattle.awk_lowering.specs.Lowered.{lowered}
 use Rattle.awk_lowering.specs.Scopes.{Scope}
 
@@ -79,3 +82,41 @@ row_computed : lowered within (t.matched (t.name (name 1 (codes "x"))) (at 3) fa
     (t.paren (at 5) (t.pattern (at 6) (codes "b")))) ≡ p.matched (at 3) (p.read (p.variable (p.parameter 0)))
     (p.computed (p.pattern (at 6) (codes "b")))
 row_computed = refl
+
+-- ---- of doubles: texts that are wanted
+
+abbrev of_doubles : Scope
+of_doubles = record (within) { numbers = profile.Double }
+
+abbrev x_text : ℕ → Expression
+x_text n = p.as_text (at n) (p.read (p.variable (p.parameter 0)))
+
+-- x "-" x
+row_joined : lowered of_doubles (t.concat (t.name (name 1 (codes "x"))) (t.more (t.quoted (at 3) (codes "-"))
+    (t.more (t.name (name 7 (codes "x"))) t.none)))
+    ≡ p.concat (x_text 1) (p.join (at 3) (p.text (codes "-")) (p.join (at 7) (x_text 7) p.no_joins))
+row_joined = refl
+
+-- a[x, "j"] = x
+row_keys : lowered of_doubles (t.assign (t.element (name 1 (codes "a"))
+    (t.more (t.name (name 3 (codes "x"))) (t.more (t.quoted (at 6) (codes "j")) t.none))) (at 11) assignment.Set
+    (t.name (name 13 (codes "x"))))
+    ≡ p.assign (at 11) (p.element (at 1) (p.global (codes "a")) (p.more (x_text 1) (p.more (p.text (codes "j"))
+    p.none))) (p.read (p.variable (p.parameter 0)))
+row_keys = refl
+
+-- substr(x, x)
+row_first : lowered of_doubles (t.builtin (at 1) b.Substr
+    (t.more (t.name (name 8 (codes "x"))) (t.more (t.name (name 11 (codes "x"))) t.none)))
+    ≡ p.builtin (at 1) f.Substr (p.more (x_text 1) (p.more (p.read (p.variable (p.parameter 0))) p.none))
+row_first = refl
+
+-- x "" in a, and x ~ x
+row_member : lowered of_doubles (t.member (t.concat (t.name (name 1 (codes "x"))) (t.more (t.quoted (at 3) []) t.none))
+    (record { place = at 6; array = name 9 (codes "a") } ∷ []))
+    ≡ p.member (p.concat (x_text 1) (p.join (at 3) (p.text []) p.no_joins)) (p.global (codes "a") ∷ [])
+row_member = refl
+
+row_matched : lowered of_doubles (t.matched (t.name (name 1 (codes "x"))) (at 3) false (t.name (name 5 (codes "x"))))
+    ≡ p.matched (at 3) (x_text 3) (p.computed (x_text 3))
+row_matched = refl

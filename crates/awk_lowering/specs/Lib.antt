@@ -1,6 +1,7 @@
 pub mod Scopes
 pub mod Starts
 pub mod Forms
+pub mod Texts
 pub mod Lowered
 pub mod OneByOne
 pub mod LoweredStatements

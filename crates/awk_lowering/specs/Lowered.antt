@@ -8,6 +8,8 @@
 --   && and ||
 --   fflush()                       0                       length(a)                     the count of the array a
 --   length()                       length($0)
+--
+-- Where a text is wanted of an operand, Texts says how it is marked.
 use Rattle.std.specs.Prelude.{Bool, true, false, if◌then◌else◌, List, [], ◌∷◌, map, get_or, codes, Option, Some}
 use Rattle.std.specs.Prelude.{None}
 use Rattle.awk_text.specs.Escapes.{unescaped}
@@ -30,6 +32,7 @@ use Rattle.awk_lowering.specs.Forms.{step_of, extent_of, signed_of, assigned, ne
 use Rattle.awk_lowering.specs.Forms.{called}
 use Rattle.awk_lowering.specs.Scopes.{Scope, variable, function, arrays_of, is_array}
 use Rattle.awk_lowering.specs.Starts.{start}
+use Rattle.awk_lowering.specs.Texts.{textual, textuals, first_textuals, texts_wanted}
 
 -- the arrays behind `in`
 abbrev pub array_in : Scope → Member → Variable
@@ -94,12 +97,13 @@ count_or c None x = x
 count_or c (Some n) x = p.count (variable c n.text)
 
 abbrev pub plain : Scope → Place → Option running.Builtin → Trees → Expressions → Expression
-plain c q (Some which) xs us = count_or c (counted c which xs) (called q which us)
+plain c q (Some which) xs us = count_or c (counted c which xs)
+    (called q which (first_textuals c.numbers q (texts_wanted which) us))
 -- sub, gsub and split have forms of their own
 plain c q None xs us = unwritten
 
 abbrev pub built : Scope → Place → Builtin → Trees → Expressions → Expression
-built c q b.Match xs us = located q xs us
+built c q b.Match xs us = located q xs (textuals c.numbers q us)
 built c q which xs us = plain c q (plain_builtin which) xs us
 
 -- a getline of the main input, or of a file
@@ -109,7 +113,7 @@ got_by q r (Some x) = p.getline_file q r x
 
 -- `NAME [ list ]`
 abbrev pub element_by : Scope → Name → Expressions → Reference
-element_by c n xs = p.element n.place (variable c n.text) xs
+element_by c n xs = p.element n.place (variable c n.text) (textuals c.numbers n.place xs)
 
 -- ---- expressions
 
@@ -125,22 +129,26 @@ abbrev mutual
   lowered c (t.call n xs) = p.call n.place (function c n.text) (arguments c (arrays_of c n.text) xs)
   lowered c (t.builtin q which xs) = built c q which xs (lowered_list c xs)
   lowered c (t.bare_length q) = without_arguments q f.Length
-  lowered c (t.split q x n y) = p.split q (lowered c x) n.place (variable c n.text) (separator c y)
+  lowered c (t.split q x n y) =
+      p.split q (textual c.numbers q (lowered c x)) n.place (variable c n.text) (separator c q y)
   lowered c (t.substitute q all x y z) =
-      p.substitute q (extent_of all) (ere_of (constant x) (lowered c x)) (lowered c y) (target_or_record c q z)
-  lowered c (t.getline q x y) = got_by q (target_or_record c q x) (lowered_perhaps c y)
+      p.substitute q (extent_of all) (ere_of (constant x) (textual c.numbers q (lowered c x)))
+      (textual c.numbers q (lowered c y)) (target_or_record c q z)
+  lowered c (t.getline q x y) = got_by q (target_or_record c q x) (file c q y)
   lowered c (t.before q how x) = p.step q (step_of how) taken.Behind (target c x)
   lowered c (t.after x q how) = p.step q (step_of how) taken.Before (target c x)
   lowered c (t.signed q how x) = signed_of q how (lowered c x)
   lowered c (t.power x q y) = p.chain (lowered c x) (p.term o.Power q (lowered c y) p.no_terms)
   lowered c (t.product x xs) = p.chain (lowered c x) (lowered_terms c xs)
   lowered c (t.sum x xs) = p.chain (lowered c x) (lowered_terms c xs)
-  lowered c (t.concat x xs) = p.concat (lowered c x) (lowered_joins c xs)
-  lowered c (t.pipe x xs) = p.pipe (lowered c x) (lowered_pipes c xs)
+  lowered c (t.concat x xs) = p.concat (textual c.numbers (start x) (lowered c x)) (lowered_joins c xs)
+  lowered c (t.pipe x xs) = p.pipe (textual c.numbers (start x) (lowered c x)) (lowered_pipes c xs)
   lowered c (t.compare x q how y) = p.compare (comparison_of how) (lowered c x) (lowered c y)
-  lowered c (t.matched x q unlike y) = negated unlike (p.matched q (lowered c x) (ere_of (constant y) (lowered c y)))
-  lowered c (t.group q xs ms) = p.group (first_in q ms) (lowered_list c xs) (arrays_in c ms)
-  lowered c (t.member x ms) = p.member (lowered c x) (arrays_in c ms)
+  lowered c (t.matched x q unlike y) = negated unlike
+      (p.matched q (textual c.numbers q (lowered c x)) (ere_of (constant y) (textual c.numbers q (lowered c y))))
+  lowered c (t.group q xs ms) =
+      p.group (first_in q ms) (textuals c.numbers (first_in q ms) (lowered_list c xs)) (arrays_in c ms)
+  lowered c (t.member x ms) = p.member (textual c.numbers (first_in (start x) ms) (lowered c x)) (arrays_in c ms)
   lowered c (t.and x xs) = p.and (lowered c x) (lowered_list c xs)
   lowered c (t.or x xs) = p.or (lowered c x) (lowered_list c xs)
   lowered c (t.choose x y z) = p.choose (lowered c x) (lowered c y) (lowered c z)
@@ -159,13 +167,13 @@ abbrev mutual
   target_or_record c q (t.present x) = target c x
 
   -- split by FS where no separator is named
-  pub separator : Scope → Perhaps → Ere
-  separator c t.absent = p.computed (p.read (p.variable (p.global (codes "FS"))))
-  separator c (t.present x) = ere_of (constant x) (lowered c x)
+  pub separator : Scope → Place → Perhaps → Ere
+  separator c q t.absent = p.computed (p.read (p.variable (p.global (codes "FS"))))
+  separator c q (t.present x) = ere_of (constant x) (textual c.numbers q (lowered c x))
 
-  pub lowered_perhaps : Scope → Perhaps → Option Expression
-  lowered_perhaps c t.absent = None
-  lowered_perhaps c (t.present x) = Some (lowered c x)
+  pub file : Scope → Place → Perhaps → Option Expression
+  file c q t.absent = None
+  file c q (t.present x) = Some (textual c.numbers q (lowered c x))
 
   pub lowered_list : Scope → Trees → Expressions
   lowered_list c t.none = p.none
@@ -177,7 +185,7 @@ abbrev mutual
 
   pub lowered_joins : Scope → Trees → Joins
   lowered_joins c t.none = p.no_joins
-  lowered_joins c (t.more x xs) = p.join (start x) (lowered c x) (lowered_joins c xs)
+  lowered_joins c (t.more x xs) = p.join (start x) (textual c.numbers (start x) (lowered c x)) (lowered_joins c xs)
 
   pub lowered_pipes : Scope → t.Pipes → p.Pipes
   lowered_pipes c t.no_pipes = p.no_pipes
@@ -190,8 +198,12 @@ abbrev mutual
 
 -- ---- the same in parts
 
-abbrev pub ere : Scope → Tree → Ere
-ere c x = ere_of (constant x) (lowered c x)
+-- an expression whose text the form at this place wants
+abbrev pub lowered_text : Scope → Place → Tree → Expression
+lowered_text c q x = textual c.numbers q (lowered c x)
+
+abbrev pub ere : Scope → Place → Tree → Ere
+ere c q x = ere_of (constant x) (lowered_text c q x)
 
 abbrev pub element : Scope → Name → Trees → Reference
 element c n xs = element_by c n (lowered_list c xs)
@@ -200,7 +212,7 @@ abbrev pub call : Scope → Name → Trees → Expression
 call c n xs = p.call n.place (function c n.text) (arguments c (arrays_of c n.text) xs)
 
 abbrev pub divided : Scope → Place → Tree → Name → Perhaps → Expression
-divided c q x n y = p.split q (lowered c x) n.place (variable c n.text) (separator c y)
+divided c q x n y = p.split q (lowered_text c q x) n.place (variable c n.text) (separator c q y)
 
 abbrev pub got : Scope → Place → Perhaps → Perhaps → Expression
-got c q x y = got_by q (target_or_record c q x) (lowered_perhaps c y)
+got c q x y = got_by q (target_or_record c q x) (file c q y)

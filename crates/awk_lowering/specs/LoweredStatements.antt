@@ -10,15 +10,16 @@ use Rattle.awk_program.specs.Program as p
 use Rattle.awk_program.specs.Program.{Expression, Statement, Statements}
 use Rattle.awk_lowering.specs.Forms.{jump_of, redirect_of, unwritten}
 use Rattle.awk_lowering.specs.Scopes.{Scope, variable}
-use Rattle.awk_lowering.specs.Lowered.{lowered}
+use Rattle.awk_lowering.specs.Lowered.{lowered, lowered_text}
 
 abbrev pub redirected : Scope → tree_redirection.Redirection Tree → Redirection Expression
-redirected c x = record { how = redirect_of x.how; place = x.place; target = lowered c x.target }
+redirected c x =
+    record { how = redirect_of x.how; place = x.place; target = lowered_text c x.place x.target }
 
 -- the first item of printf is its format
 abbrev pub printed : Scope → Place → List Tree → Option (Redirection Expression) → Statement
 printed c q [] to = p.printf q unwritten [] to
-printed c q (x ∷ xs) to = p.printf q (lowered c x) (map (lowered c) xs) to
+printed c q (x ∷ xs) to = p.printf q (lowered_text c q x) (map (lowered c) xs) to
 
 abbrev mutual
   pub statement : Scope → t.Statement → Statement
@@ -26,7 +27,7 @@ abbrev mutual
   statement c (t.plain x) = p.plain (lowered c x)
   statement c (t.print q xs to) = p.print q (map (lowered c) xs.items) (option_map (redirected c) to)
   statement c (t.printf q xs to) = printed c q xs.items (option_map (redirected c) to)
-  statement c (t.delete n xs) = p.delete n.place (variable c n.text) (map (lowered c) xs)
+  statement c (t.delete n xs) = p.delete n.place (variable c n.text) (map (lowered_text c n.place) xs)
   statement c (t.delete_all n) = p.delete_all (variable c n.text)
   statement c (t.jump q which) = p.jump (jump_of q which)
   statement c (t.exit q x) = p.exit q (option_map (lowered c) x)

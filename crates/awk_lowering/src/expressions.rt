@@ -5,7 +5,9 @@ ghost use Rattle.std.specs.Prelude.{◌≡◌, ◌++◌, OnOk, Some, map, option
 ghost use Rattle.awk_lowering.specs.Forms as form;
 ghost use Rattle.awk_lowering.specs.Lowered as low;
 ghost use Rattle.awk_lowering.specs.Lowered.{lowered};
-ghost use Rattle.awk_lowering.specs.OneByOne.{lowered_term, lowered_join, then_arguments, then_pipes};
+ghost use Rattle.awk_lowering.specs.OneByOne.{first_lowered, lowered_term, lowered_join, then_arguments, then_pipes};
+ghost use Rattle.awk_lowering.specs.Starts as starts;
+ghost use Rattle.awk_lowering.specs.Texts as wants;
 ghost use Rattle.awk_lowering.specs.Made.{Is, AreAll, AreTerms, AreJoins, ArePipes, AreArguments, IsTarget, IsEre};
 ghost use Rattle.awk_lowering.specs.Made.{IsPerhaps, names_in, scope_in};
 ghost use Rattle.awk_program.specs.View as code;
@@ -13,7 +15,7 @@ ghost use Rattle.awk_tree.specs.Tree.{trees_of, perhaps_of, pipes_of};
 ghost use Rattle.awk_tree.specs.View.{view, view_term, view_piped};
 
 use crate::constants::{number, pattern, quoted};
-use crate::kept::{boxed, kept, push, room};
+use crate::kept::{boxed, kept, opened, push, room};
 use crate::names::{Lowering, arrays_in, arrays_of, function, variable};
 use crate::nodes::{
     and_of, builtin_of, call_of, chain_of, choose_of, compare_of, concat_of, count_of,
@@ -25,15 +27,16 @@ use crate::operators::{
     without_arguments,
 };
 use crate::parts::{argument_of, given, join_of, piped_of, power_of, term_of};
-use crate::shapes::{bare, constant, counted, first_in, later, start, takes_array};
+use crate::shapes::{bare, constant, counted, first_behind, first_in, later, start, takes_array};
 use crate::targets::{
     computed_of, constant_of, element_of, field_of, field_separator, record_of, unwritten,
     variable_of, zero,
 };
+use crate::texts::{text_at, text_of, texts_wanted};
 use awk_program::{Argument, Builtin, Expr, Joined, Pattern, Piped, StepValue, Target, Term};
 use awk_text::Memory;
 use awk_text::place::Place;
-use awk_tree::Name;
+use awk_tree::{Member, Name};
 use sqlite_items::{Boxed, Items};
 use std::alloc::AllocError;
 
@@ -63,8 +66,8 @@ pub fn expression(context: &Lowering<'_>, e: &awk_tree::Expr, level: u32) -> Res
         awk_tree::Expr::Length(place) => record_length(context.alloc, *place),
         awk_tree::Expr::Split(place, x, n, y) => split(context, *place, x.get(), n, y, below),
         awk_tree::Expr::Substitute(place, all, x, y, z) => {
-            let y = part(context, y.get(), below);
-            let x = wanted(context, x.get(), below);
+            let y = text(context, *place, y.get(), below);
+            let x = wanted(context, *place, x.get(), below);
             let target = target_or_record(context, *place, z, below);
             substitute_of(*place, extent(*all), x, y, target)
         }
@@ -93,11 +96,11 @@ pub fn expression(context: &Lowering<'_>, e: &awk_tree::Expr, level: u32) -> Res
             chain_of(x, terms(context, xs.as_slice(), below))
         }
         awk_tree::Expr::Concat(x, xs) => {
-            let x = part(context, x.get(), below);
+            let x = operand(context, x.get(), below);
             concat_of(x, joins(context, xs.as_slice(), below))
         }
         awk_tree::Expr::Pipe(x, xs) => {
-            let x = part(context, x.get(), below);
+            let x = operand(context, x.get(), below);
             pipe_of(x, pipes(context, xs.as_slice(), below))
         }
         awk_tree::Expr::Compare(x, _, how, y) => {
@@ -105,17 +108,17 @@ pub fn expression(context: &Lowering<'_>, e: &awk_tree::Expr, level: u32) -> Res
             compare_of(comparison(*how), x, part(context, y.get(), below))
         }
         awk_tree::Expr::Match(x, place, unlike, y) => {
-            let x = part(context, x.get(), below);
-            let is_like = match_of(*place, x, wanted(context, y.get(), below));
+            let x = text(context, *place, x.get(), below);
+            let is_like = match_of(*place, x, wanted(context, *place, y.get(), below));
             negated(context.alloc, *unlike, is_like)
         }
         awk_tree::Expr::Group(place, xs, members) => {
-            let xs = list(context, xs.as_slice(), below);
-            let arrays = arrays_in(context, members.as_slice());
-            group_of(first_in(*place, members.as_slice()), xs, arrays)
+            let place = first_in(*place, members.as_slice());
+            let xs = texts(context, place, xs.as_slice(), below);
+            group_of(place, xs, arrays_in(context, members.as_slice()))
         }
         awk_tree::Expr::In(x, members) => {
-            let x = part(context, x.get(), below);
+            let x = key(context, x.get(), members.as_slice(), below);
             member_of(x, arrays_in(context, members.as_slice()))
         }
         awk_tree::Expr::And(x, xs) => {
@@ -146,6 +149,43 @@ pub fn part(context: &Lowering<'_>, x: &awk_tree::Expr, level: u32) -> Result<Bo
     boxed(context.alloc, expression(context, x, level))
 }
 
+/// An expression whose text the form at this place wants.
+#[cycle(expression)]
+pub fn text(
+    context: &Lowering<'_>,
+    place: Place,
+    x: &awk_tree::Expr,
+    level: u32,
+) -> Result<Boxed<Expr>, Memory>
+    ensures { Is (names_in context.now) result (low.lowered_text (scope_in context.now) place (view x.now)) }
+{
+    text_of(context, place, part(context, x, level))
+}
+
+/// An operand of which a text is wanted, at the place of its first token.
+#[cycle(expression)]
+fn operand(context: &Lowering<'_>, x: &awk_tree::Expr, level: u32) -> Result<Boxed<Expr>, Memory>
+    ensures { Is (names_in context.now) result
+        (low.lowered_text (scope_in context.now) (starts.start (view x.now)) (view x.now)) }
+{
+    text_at(context, start(x, level), part(context, x, level))
+}
+
+/// The key before `in`.
+#[cycle(expression)]
+fn key(
+    context: &Lowering<'_>,
+    x: &awk_tree::Expr,
+    members: &[Member],
+    level: u32,
+) -> Result<Boxed<Expr>, Memory>
+    ensures { Is (names_in context.now) result
+        (low.lowered_text (scope_in context.now) (low.first_in (starts.start (view x.now)) members.now) (view x.now)) }
+{
+    let place = first_behind(x, members, level);
+    text_at(context, place, part(context, x, level))
+}
+
 /// `NAME [ list ]`
 #[cycle(expression)]
 fn element(
@@ -158,7 +198,7 @@ fn element(
         (low.element (scope_in context.now) n.now (trees_of (map view keys.now))) }
 {
     let v = variable(context, n.text.bytes());
-    element_of(n.place, v, list(context, keys, level))
+    element_of(n.place, v, texts(context, n.place, keys, level))
 }
 
 /// What is set. The grammar puts nothing but the first three there; anything else stands for the whole record.
@@ -235,27 +275,33 @@ fn piped_target(
 
 /// What stands where a pattern is wanted.
 #[cycle(expression)]
-fn wanted(context: &Lowering<'_>, e: &awk_tree::Expr, level: u32) -> Result<Pattern<Expr>, Memory>
-    ensures { IsEre (names_in context.now) result (low.ere (scope_in context.now) (view e.now)) }
+fn wanted(
+    context: &Lowering<'_>,
+    place: Place,
+    e: &awk_tree::Expr,
+    level: u32,
+) -> Result<Pattern<Expr>, Memory>
+    ensures { IsEre (names_in context.now) result (low.ere (scope_in context.now) place (view e.now)) }
 {
     match constant(e) {
         Some((place, text)) => constant_of(context.alloc, place, text),
-        None => computed_of(part(context, e, level)),
+        None => computed_of(text(context, place, e, level)),
     }
 }
 
 #[cycle(expression)]
 fn separator(
     context: &Lowering<'_>,
+    place: Place,
     y: &Option<Boxed<awk_tree::Expr>>,
     level: u32,
 ) -> Result<Pattern<Expr>, Memory>
     ensures { IsEre (names_in context.now) result
-        (low.separator (scope_in context.now) (perhaps_of (option_map view y.now))) }
+        (low.separator (scope_in context.now) place (perhaps_of (option_map view y.now))) }
 {
     match y {
         None => field_separator(context),
-        Some(y) => wanted(context, y.get(), level),
+        Some(y) => wanted(context, place, y.get(), level),
     }
 }
 
@@ -272,9 +318,9 @@ fn split(
     ensures { Is (names_in context.now) result
         (low.divided (scope_in context.now) place (view x.now) n.now (perhaps_of (option_map view y.now))) }
 {
-    let x = part(context, x, level);
+    let x = text(context, place, x, level);
     let v = variable(context, n.text.bytes());
-    split_of(place, x, n.place, v, separator(context, y, level))
+    split_of(place, x, n.place, v, separator(context, place, y, level))
 }
 
 /// `getline target < file`
@@ -293,7 +339,7 @@ fn getline(
     let x = target_or_record(context, place, x, level);
     match y {
         None => getline_of(place, x),
-        Some(y) => getline_file_of(place, x, part(context, y.get(), level)),
+        Some(y) => getline_file_of(place, x, text(context, place, y.get(), level)),
     }
 }
 
@@ -363,11 +409,15 @@ fn called(
     level: u32,
 ) -> Result<Expr, Memory>
     ensures { Is (names_in context.now) result
-        (form.called place which (low.lowered_list (scope_in context.now) (trees_of (map view args.now)))) }
+        (form.called place which (wants.first_textuals context.now.numbers place (wants.texts_wanted which)
+        (low.lowered_list (scope_in context.now) (trees_of (map view args.now))))) }
 {
     match args {
         [] => without_arguments(context.alloc, place, which),
-        [_, ..] => builtin_of(place, which, list(context, args, level)),
+        [_, ..] => {
+            let xs = first_texts(context, place, texts_wanted(which), args, level);
+            builtin_of(place, which, xs)
+        }
     }
 }
 
@@ -380,13 +430,13 @@ fn located(
     level: u32,
 ) -> Result<Expr, Memory>
     ensures { Is (names_in context.now) result
-        (low.located place (trees_of (map view args.now))
-        (low.lowered_list (scope_in context.now) (trees_of (map view args.now)))) }
+        (low.located place (trees_of (map view args.now)) (wants.textuals context.now.numbers place
+        (low.lowered_list (scope_in context.now) (trees_of (map view args.now))))) }
 {
     match args {
         [x, y] => {
-            let x = part(context, x, level);
-            locate_of(place, x, wanted(context, y, level))
+            let x = text(context, place, x, level);
+            locate_of(place, x, wanted(context, place, y, level))
         }
         [] | [_] => zero(),
         [_, _, _, ..] => zero(),
@@ -421,6 +471,75 @@ pub fn list(
 {
     let mut out = room(context.alloc, xs.len());
     let filled = fill(context, xs, &mut out, level);
+    kept(out, filled)
+}
+
+#[cycle(expression)]
+fn fill_texts(
+    context: &Lowering<'_>,
+    place: Place,
+    xs: &[awk_tree::Expr],
+    out: &mut Items<Expr>,
+    level: u32,
+) -> Result<(), Memory>
+    ensures { OnOk result
+        (map (code.view (names_in context.now)) out.new ≡ map (code.view (names_in context.now)) out.old
+        ++ map (low.lowered_text (scope_in context.now) place) (map view xs.now)) }
+{
+    for x in xs {
+        push(out, opened(text(context, place, x, level)))?;
+    }
+    Ok(())
+}
+
+/// A list of expressions whose texts the form at this place wants.
+#[cycle(expression)]
+pub fn texts(
+    context: &Lowering<'_>,
+    place: Place,
+    xs: &[awk_tree::Expr],
+    level: u32,
+) -> Result<Items<Expr>, Memory>
+    ensures { AreAll (names_in context.now) result
+        (map (low.lowered_text (scope_in context.now) place) (map view xs.now)) }
+{
+    let mut out = room(context.alloc, xs.len());
+    let filled = fill_texts(context, place, xs, &mut out, level);
+    kept(out, filled)
+}
+
+#[cycle(expression)]
+fn fill_first_texts(
+    context: &Lowering<'_>,
+    place: Place,
+    count: usize,
+    xs: &[awk_tree::Expr],
+    out: &mut Items<Expr>,
+    level: u32,
+) -> Result<(), Memory>
+    ensures { OnOk result
+        (map (code.view (names_in context.now)) out.new ≡ map (code.view (names_in context.now)) out.old
+        ++ first_lowered (scope_in context.now) place count (map view xs.now)) }
+{
+    let (first, rest) = xs.split_at(count.min(xs.len()));
+    fill_texts(context, place, first, out, level)?;
+    fill(context, rest, out, level)
+}
+
+/// A list of expressions, of the first of which the form at this place wants the texts.
+#[cycle(expression)]
+fn first_texts(
+    context: &Lowering<'_>,
+    place: Place,
+    count: usize,
+    xs: &[awk_tree::Expr],
+    level: u32,
+) -> Result<Items<Expr>, Memory>
+    ensures { AreAll (names_in context.now) result
+        (first_lowered (scope_in context.now) place count (map view xs.now)) }
+{
+    let mut out = room(context.alloc, xs.len());
+    let filled = fill_first_texts(context, place, count, xs, &mut out, level);
     kept(out, filled)
 }
 
@@ -469,7 +588,7 @@ fn fill_joins(
         ++ map (lowered_join (scope_in context.now)) (map view xs.now)) }
 {
     for x in xs {
-        let operand = part(context, x, level);
+        let operand = operand(context, x, level);
         push(out, join_of(start(x, level), operand))?;
     }
     Ok(())

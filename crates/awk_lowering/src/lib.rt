@@ -18,6 +18,7 @@ mod scripts;
 pub mod shapes;
 pub mod statements;
 pub mod targets;
+pub mod texts;
 
 pub use items::program;
 pub use names::Lowering;

@@ -196,3 +196,13 @@ pub fn start(e: &Expr, level: u32) -> Result<Place, Memory>
         Expr::Assign(x, _, _, _) => start(x.get(), level - 1),
     }
 }
+
+/// The place of the first `in` behind an expression of at most this depth.
+pub fn first_behind(e: &Expr, members: &[Member], level: u32) -> Result<Place, Memory>
+    ensures { IfOk result (λ place. place ≡ low.first_in (starts.start (view e.now)) members.now) }
+{
+    match members {
+        [] => start(e, level),
+        [first, ..] => Ok(first.place),
+    }
+}

@@ -12,7 +12,7 @@ use crate::blocks::{
     block_of, delete_all_of, delete_of, do_of, exit_of, for_in_of, for_of, if_else_of, if_of,
     nothing, plain_of, print_of, printf_of, redirection_of, return_of, while_of,
 };
-use crate::expressions::{list, optional, part};
+use crate::expressions::{list, optional, part, text, texts};
 use crate::kept::{boxed, kept, push, room};
 use crate::names::{Lowering, variable};
 use crate::operators::jump;
@@ -34,7 +34,10 @@ fn redirected(
 {
     match to {
         None => Ok(None),
-        Some(to) => redirection_of(to.how, to.place, part(context, &to.target, level)),
+        Some(to) => {
+            let target = text(context, to.place, &to.target, level);
+            redirection_of(to.how, to.place, target)
+        }
     }
 }
 
@@ -58,7 +61,7 @@ fn printf(
             to,
         ),
         [x, rest @ ..] => {
-            let x = part(context, x, level);
+            let x = text(context, place, x, level);
             printf_of(place, x, list(context, rest, level), to)
         }
     }
@@ -105,7 +108,7 @@ fn statement(
         }
         awk_tree::Statement::Delete(n, keys) => {
             let v = variable(context, n.text.bytes());
-            delete_of(n.place, v, list(context, keys.as_slice(), below))
+            delete_of(n.place, v, texts(context, n.place, keys.as_slice(), below))
         }
         awk_tree::Statement::DeleteAll(n) => delete_all_of(variable(context, n.text.bytes())),
         awk_tree::Statement::Jump(place, which) => { Ok(Statement::Jump(jump(*place, *which))) }

@@ -33,6 +33,7 @@ fn expression_of_parts(context: Printing<'_>, e: &Expr, out: &mut Page) {
         Expr::Step(q, how, taken, r) => at_target(context, step_text(*how, *taken), *q, r, out),
         Expr::Not(x) => one(context, "!", x.get(), out),
         Expr::Signed(q, how, x) => at_one(context, sign_text(*how), *q, x.get(), out),
+        Expr::AsText(q, x) => at_one(context, "text", *q, x.get(), out),
         Expr::Chain(x, xs) => chain(context, x.get(), xs.as_slice(), out),
         Expr::Concat(x, xs) => concat(context, x.get(), xs.as_slice(), out),
         Expr::Compare(how, x, y) => { two(context, comparison_text(*how), x.get(), y.get(), out) }

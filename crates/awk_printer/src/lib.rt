@@ -22,6 +22,7 @@
 //! - `(pre++ 1:1 x)`, `(post++ 1:1 x)`, and the same with `--`: steps that give the new number, and the old.
 //! - `(chain x + 1:3 y - 1:7 z)`: operands of one level from the left, each later one behind its
 //!   operator and that operator's place. `(concat x 1:3 y)`: texts, each later one behind its place.
+//! - `(text 1:1 x)`: an operand of which a text is wanted, of doubles, with the place of the form that wants it.
 //! - `(in 1:1 (list i j) a)`: a list of keys that is looked for in an array; without a list it has no place.
 //! - `(call 1:1 0 x (array a) (nothing))`: a call of the function of that number, with a value, an
 //!   array, and an array that the function never reads.

@@ -66,6 +66,7 @@ abbrev mutual
   value (p.step place how taken r) = target r
   value (p.not x) = value x
   value (p.signed place how x) = value x
+  value (p.as_text place x) = value x
   value (p.chain x xs) = value x ++ terms xs
   value (p.concat x xs) = value x ++ joins xs
   value (p.compare how x y) = value x ++ value y

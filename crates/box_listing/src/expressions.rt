@@ -33,6 +33,7 @@ pub fn constant(e: &Expr) -> Option<&Octets>
         | Expr::Step(_, _, _, _)
         | Expr::Not(_)
         | Expr::Signed(_, _, _)
+        | Expr::AsText(_, _)
         | Expr::Chain(_, _)
         | Expr::Concat(_, _)
         | Expr::Compare(_, _, _)
@@ -160,6 +161,7 @@ fn expression(alloc: Global, e: &Expr, level: u64, out: &mut Vec<Found>) -> Resu
         Expr::Step(_place, _how, _taken, r) => target(alloc, r, below, out),
         Expr::Not(x) => expression(alloc, x.get(), below, out),
         Expr::Signed(_place, _how, x) => expression(alloc, x.get(), below, out),
+        Expr::AsText(_place, x) => expression(alloc, x.get(), below, out),
         Expr::Chain(x, xs) => {
             expression(alloc, x.get(), below, out)?;
             terms(alloc, xs.as_slice(), below, out)

@@ -262,7 +262,7 @@ module _ (S : Listed) where
       (known_of_print place xs r vs n) rest rest
   statements (p.printf place x xs r) vs k t h n rest =
       let i = back S (s.value x) (s.all xs ++ s.redirection r) h in
-      prints (λ s. formatted_by s.numbers) place (x ∷ xs) r (Doing (p.printf place x xs r)) vs k t
+      prints formatted_by place (x ∷ xs) r (Doing (p.printf place x xs r)) vs k t
       (front S (s.value x) (s.all xs ++ s.redirection r) h, each_of_list S xs (front S (s.all xs) (s.redirection r) i))
       (back S (s.all xs) (s.redirection r) i) h (λ y i. i)
       (known_of_printf place x xs r vs n) rest rest

@@ -330,6 +330,9 @@ module _ (S : Listed) where
   values (p.signed place how x) vs k t h n rest =
       one S (value x) _ _ vs k t (push_value S x (Value_of (p.signed place how x)) [] k h h (λ y says. tt) rest)
       (λ y. delivered S place _ k t rest)
+  values (p.as_text place x) vs k t h n rest =
+      one S (value x) _ _ vs k t (push_value S x (Value_of (p.as_text place x)) [] k h h (λ y says. tt) rest)
+      (λ y. delivered S place _ k t rest)
   values (p.chain x xs) vs k t h n rest = push_value S x (Terms_of xs) [] k (front S (s.value x) (s.terms xs) h)
       (back S (s.value x) (s.terms xs) h) (λ y says. tt) rest
   values (p.concat x xs) vs k t h n rest = push_value S x (Texts_of xs) [] k (front S (s.value x) (s.joins xs) h)

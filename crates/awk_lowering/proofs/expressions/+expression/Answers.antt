@@ -1,4 +1,4 @@
-use Rattle.std.proofs.Common.{arith, ◌∙◌, ◌-◌, sym, map, length, take, drop}
+use Rattle.std.proofs.Common.{arith, ◌∙◌, sym, map}
 use Rattle.std.proofs.lemmas.List.{drop_all}
 use Rattle.awk_tree.specs.Tree.{trees_of}
 use Rattle.awk_tree.specs.View.{view, view_term}
@@ -8,12 +8,14 @@ use Rattle.awk_tree.proofs.Views.{view-Getline, view-Before, view-After, view-Si
 use Rattle.awk_tree.proofs.Views.{view-Sum, view-Concat, view-Pipe, view-Compare, view-Match, view-Group, view-In}
 use Rattle.awk_tree.proofs.Views.{view-And, view-Or, view-Choice, view-Assign}
 use Rattle.awk_program.specs.View as code
-use Rattle.awk_lowering.specs.Lowered.{lowered, lowered_list}
+use Rattle.awk_lowering.specs.Lowered.{lowered, lowered_text, lowered_list}
 use Rattle.awk_lowering.specs.OneByOne.{lowered_term, lowered_join}
 use Rattle.awk_lowering.specs.Made.{names_in, scope_in}
+use Rattle.awk_lowering.specs.Texts.{texts_wanted}
 use Rattle.awk_lowering.proofs.Carried.{boxed_is, turned, whole, whole_as, none_left, just_two}
-use Rattle.awk_lowering.proofs.Lists.{called_some, plainly, located_else, list_is, terms_are, joins_are, pipes_end}
+use Rattle.awk_lowering.proofs.Lists.{called_some, plainly, located_else, terms_are, joins_are, pipes_end}
 use Rattle.awk_lowering.proofs.Lists.{pipes_turn, arguments_end, arguments_turn}
+use Rattle.awk_lowering.proofs.Wanted.{list_is, texts_are, first_none, firsts_split, rest_behind}
 use Rattle.awk_lowering.proofs.expressions.+expression.Goals as goal
 
 pub expression-returns-in-Number : goal.expression-returns-in-Number
@@ -65,7 +67,7 @@ expression-returns-in-Split t c =
 
 pub expression-returns-in-Substitute : goal.expression-returns-in-Substitute
 expression-returns-in-Substitute t c =
-    let y = rw c.get-in-Substitute.ensures at c.part-y.ensures in
+    let y = rw c.get-in-Substitute.ensures at c.text-y.ensures in
     let x = rw c.get-in-Substitute-2.ensures at c.wanted-x.ensures in
     rw (c.in-Substitute.is, view-Substitute, ← c.extent.ensures)
     (c.substitute_of.ensures _ _ _ _ x y c.target_or_record-target.ensures)
@@ -109,13 +111,13 @@ expression-returns-in-Sum t c =
 
 pub expression-returns-in-Concat : goal.expression-returns-in-Concat
 expression-returns-in-Concat t c =
-    let x = rw c.get-in-Concat.ensures at c.part-x-in-Concat.ensures in
+    let x = rw c.get-in-Concat.ensures at c.operand-x.ensures in
     let xs = rw c.as_slice-in-Concat.ensures at c.joins.ensures in
     rw (c.in-Concat.is, view-Concat, joins_are) (c.concat_of.ensures _ _ _ x xs)
 
 pub expression-returns-in-Pipe : goal.expression-returns-in-Pipe
 expression-returns-in-Pipe t c =
-    let x = rw c.get-in-Pipe.ensures at c.part-x-in-Pipe.ensures in
+    let x = rw c.get-in-Pipe.ensures at c.operand-x-in-Pipe.ensures in
     let xs = rw c.as_slice-in-Pipe.ensures at c.pipes.ensures in
     rw (c.in-Pipe.is, view-Pipe) (c.pipe_of.ensures _ _ _ x xs)
 
@@ -127,21 +129,21 @@ expression-returns-in-Compare t c =
 
 pub expression-returns-in-Match : goal.expression-returns-in-Match
 expression-returns-in-Match t c =
-    let x = rw c.get-in-Match.ensures at c.part-x-in-Match.ensures in
+    let x = rw c.get-in-Match.ensures at c.text-x.ensures in
     let y = rw c.get-in-Match-2.ensures at c.wanted.ensures in
     rw (c.in-Match.is, view-Match) (c.negated.ensures _ _ (c.match_of-is_like.ensures _ _ _ x y))
 
 pub expression-returns-in-Group : goal.expression-returns-in-Group
 expression-returns-in-Group t c =
-    let xs = rw c.as_slice-in-Group.ensures at c.list-xs.ensures in
-    let vs = rw c.as_slice-in-Group-2.ensures at c.arrays_in-arrays.ensures in
-    let q = rw c.as_slice-in-Group-3.ensures at c.first_in.ensures in
-    rw (c.in-Group.is, view-Group, list_is, ← q) (c.group_of.ensures _ _ _ xs vs)
+    let q = rw c.as_slice-in-Group.ensures at c.first_in-place.ensures in
+    let xs = rw c.as_slice-in-Group-2.ensures at c.texts-xs.ensures in
+    let vs = rw c.as_slice-in-Group-3.ensures at c.arrays_in.ensures in
+    rw (c.in-Group.is, view-Group, texts_are (scope_in c.args.context.now), ← q) (c.group_of.ensures _ _ _ xs vs)
 
 pub expression-returns-in-In : goal.expression-returns-in-In
 expression-returns-in-In t c =
-    let x = rw c.get-in-In.ensures at c.part-x-in-In.ensures in
-    let vs = rw c.as_slice-in-In.ensures at c.arrays_in.ensures in
+    let x = rw (c.get-in-In.ensures, c.as_slice-in-In.ensures) at c.key-x.ensures in
+    let vs = rw c.as_slice-in-In-2.ensures at c.arrays_in-in-In.ensures in
     rw (c.in-In.is, view-In) (c.member_of.ensures _ _ _ x vs)
 
 pub expression-returns-in-And : goal.expression-returns-in-And
@@ -159,7 +161,7 @@ expression-returns-in-Or t c =
 pub expression-returns-in-Choice : goal.expression-returns-in-Choice
 expression-returns-in-Choice t c =
     let x = rw c.get-in-Choice.ensures at c.part-x-in-Choice.ensures in
-    let y = rw c.get-in-Choice-2.ensures at c.part-y-in-Choice.ensures in
+    let y = rw c.get-in-Choice-2.ensures at c.part-y.ensures in
     let z = rw c.get-in-Choice-3.ensures at c.part-in-Choice.ensures in
     rw (c.in-Choice.is, view-Choice) (c.choose_of.ensures _ _ _ _ x y z)
 
@@ -173,9 +175,19 @@ pub part-returns : goal.part-returns
 part-returns t c =
     boxed_is (code.view (names_in c.args.context.now)) _ _ _ c.boxed.ensures c.expression.ensures
 
+pub text-returns : goal.text-returns
+text-returns t c = c.text_of.ensures _ c.part.ensures
+
+pub operand-returns : goal.operand-returns
+operand-returns t c = c.text_at.ensures _ _ c.start.ensures c.part.ensures
+
+pub key-returns : goal.key-returns
+key-returns t c = c.text_at.ensures _ _ c.first_behind-place.ensures c.part.ensures
+
 pub element-returns : goal.element-returns
 element-returns t c =
-    let v = rw c.bytes.ensures at c.variable-v.ensures in rw list_is (c.element_of.ensures _ _ _ v c.list.ensures)
+    let v = rw c.bytes.ensures at c.variable-v.ensures in
+    rw (texts_are (scope_in c.args.context.now)) (c.element_of.ensures _ _ _ v c.texts.ensures)
 
 pub target-returns-in-Name : goal.target-returns-in-Name
 target-returns-in-Name t c =
@@ -211,7 +223,7 @@ wanted-returns-in-Some t c =
 
 pub wanted-returns-in-None : goal.wanted-returns-in-None
 wanted-returns-in-None t c =
-    rw (← c.constant.ensures, c.in-None.is) (c.computed_of.ensures _ _ c.part.ensures)
+    rw (← c.constant.ensures, c.in-None.is) (c.computed_of.ensures _ _ c.text.ensures)
 
 pub separator-returns-in-None : goal.separator-returns-in-None
 separator-returns-in-None t c =
@@ -224,7 +236,7 @@ separator-returns-in-Some t c =
 pub split-returns : goal.split-returns
 split-returns t c =
     let v = rw c.bytes.ensures at c.variable-v.ensures in
-    c.split_of.ensures _ _ _ _ c.part-x.ensures v c.separator.ensures
+    c.split_of.ensures _ _ _ _ c.text-x.ensures v c.separator.ensures
 
 pub getline-returns-in-None : goal.getline-returns-in-None
 getline-returns-in-None t c =
@@ -232,7 +244,7 @@ getline-returns-in-None t c =
 
 pub getline-returns-in-Some : goal.getline-returns-in-Some
 getline-returns-in-Some t c =
-    let y = rw c.get.ensures at c.part.ensures in
+    let y = rw c.get.ensures at c.text.ensures in
     rw c.in-Some.is (c.getline_file_of.ensures _ _ _ c.target_or_record-x.ensures y)
 
 pub call-returns : goal.call-returns
@@ -261,12 +273,15 @@ plain-returns-in-None t c = rw (← c.counted.ensures, c.in-None.is) c.called.en
 
 pub called-returns-in-empty : goal.called-returns-in-empty
 called-returns-in-empty t c =
-    rw (none_left c.args.args.now c.in-empty.len_below) (c.without_arguments.ensures _)
+    rw (none_left c.args.args.now c.in-empty.len_below, first_none) (c.without_arguments.ensures _)
 
 pub called-returns-in-len1-up : goal.called-returns-in-len1-up
 called-returns-in-len1-up t c =
-    rw (called_some (scope_in c.args.context.now) c.args.place c.args.which c.args.args.now c.in-len1-up.len_at_least)
-    (c.builtin_of.ensures _ _ c.list.ensures)
+    rw (
+      called_some (scope_in c.args.context.now) c.args.place c.args.which (texts_wanted c.args.which) c.args.args.now
+          c.in-len1-up.len_at_least,
+      ← c.texts_wanted.ensures,
+    ) (c.builtin_of.ensures _ _ c.first_texts-xs.ensures)
 
 pub located-returns-in-empty : goal.located-returns-in-empty
 located-returns-in-empty t c =
@@ -281,7 +296,7 @@ located-returns-in-len3-up t c =
 pub located-returns-in-len2 : goal.located-returns-in-len2
 located-returns-in-len2 t c =
     rw (just_two c.args.args.now c.x-item.result c.y-item.result c.in-len2.len_at_least c.in-len2.len_below c.x-item.is
-    c.y-item.is) (c.locate_of.ensures _ _ _ c.part-x.ensures c.wanted.ensures)
+    c.y-item.is) (c.locate_of.ensures _ _ _ c.text-x.ensures c.wanted.ensures)
 
 pub fill-loop-x-preserved : goal.fill-loop-x-preserved
 fill-loop-x-preserved t c =
@@ -293,6 +308,28 @@ pub list-returns : goal.list-returns
 list-returns t c =
     whole (code.view (names_in c.args.context.now)) _ _ _ _ c.kept.ensures
     (rw c.room-out.ensures at c.fill-filled.ensures)
+
+pub fill_texts-loop-x-preserved : goal.fill_texts-loop-x-preserved
+fill_texts-loop-x-preserved t c =
+    turned (code.view (names_in c.args.context.now)) (lowered_text (scope_in c.args.context.now) c.args.place) view
+    _ _ _ _ c.x-item.result c.args.xs.now c.loop-x.x-index (omega arith) c.x-item.is
+    (rw (← c.opened.ensures) at c.text.ensures) c.in_ok-push.ensures c.loop-x.invariant
+
+pub texts-returns : goal.texts-returns
+texts-returns t c =
+    whole (code.view (names_in c.args.context.now)) _ _ _ _ c.kept.ensures
+    (rw c.room-out.ensures at c.fill_texts-filled.ensures)
+
+pub fill_first_texts-returns : goal.fill_first_texts-returns
+fill_first_texts-returns t c =
+    let split = firsts_split (scope_in c.args.context.now) c.args.place view c.args.count c.args.xs.now _ _ _
+    c.min.ensures c.split_at.ensures.front c.split_at.ensures.back in
+    rest_behind _ _ _ _ _ _ _ c.in_ok-fill_texts.ensures split c.fill.ensures
+
+pub first_texts-returns : goal.first_texts-returns
+first_texts-returns t c =
+    whole (code.view (names_in c.args.context.now)) _ _ _ _ c.kept.ensures
+    (rw c.room-out.ensures at c.fill_first_texts-filled.ensures)
 
 pub fill_terms-loop-x-preserved : goal.fill_terms-loop-x-preserved
 fill_terms-loop-x-preserved t c =
@@ -309,7 +346,7 @@ pub fill_joins-loop-x-preserved : goal.fill_joins-loop-x-preserved
 fill_joins-loop-x-preserved t c =
     turned (code.view_joined (names_in c.args.context.now)) (lowered_join (scope_in c.args.context.now)) view _ _ _ _
     c.x-item.result c.args.xs.now c.loop-x.x-index (omega arith) c.x-item.is
-    (c.join_of.ensures _ _ _ c.start.ensures c.part-operand.ensures) c.in_ok-push.ensures c.loop-x.invariant
+    (c.join_of.ensures _ _ _ c.start.ensures c.operand-operand.ensures) c.in_ok-push.ensures c.loop-x.invariant
 
 pub joins-returns : goal.joins-returns
 joins-returns t c =

@@ -2,7 +2,7 @@ use Rattle.std.proofs.Common.{◌≡◌, ◌+◌, ◌*◌, ◌++◌, drop, map}
 use Rattle.awk_tree.specs.Tree.{trees_of, pipes_of}
 use Rattle.awk_tree.specs.View.{view, view_term, view_piped}
 use Rattle.awk_program.specs.View as code
-use Rattle.awk_lowering.specs.Lowered.{lowered, lowered_pipes, arguments}
+use Rattle.awk_lowering.specs.Lowered.{lowered, lowered_text, lowered_pipes, arguments}
 use Rattle.awk_lowering.specs.OneByOne.{lowered_term, lowered_join, then_pipes, then_arguments}
 use Rattle.awk_lowering.specs.Made.{names_in, scope_in}
 use Rattle.awk_lowering.proofs.expressions.+expression.Given as goal
@@ -13,11 +13,32 @@ decreases-expression l = 16 * l.level
 abbrev pub decreases-part : goal.decreases-part
 decreases-part l = 1 + 16 * l.level
 
+abbrev pub decreases-text : goal.decreases-text
+decreases-text l = 2 + 16 * l.level
+
+abbrev pub decreases-operand : goal.decreases-operand
+decreases-operand l = 2 + 16 * l.level
+
+abbrev pub decreases-key : goal.decreases-key
+decreases-key l = 2 + 16 * l.level
+
 abbrev pub decreases-fill : goal.decreases-fill
 decreases-fill l = 1 + 16 * l.level
 
 abbrev pub decreases-list : goal.decreases-list
 decreases-list l = 2 + 16 * l.level
+
+abbrev pub decreases-fill_texts : goal.decreases-fill_texts
+decreases-fill_texts l = 3 + 16 * l.level
+
+abbrev pub decreases-texts : goal.decreases-texts
+decreases-texts l = 4 + 16 * l.level
+
+abbrev pub decreases-fill_first_texts : goal.decreases-fill_first_texts
+decreases-fill_first_texts l = 4 + 16 * l.level
+
+abbrev pub decreases-first_texts : goal.decreases-first_texts
+decreases-first_texts l = 5 + 16 * l.level
 
 abbrev pub decreases-fill_terms : goal.decreases-fill_terms
 decreases-fill_terms l = 2 + 16 * l.level
@@ -26,40 +47,40 @@ abbrev pub decreases-terms : goal.decreases-terms
 decreases-terms l = 3 + 16 * l.level
 
 abbrev pub decreases-fill_joins : goal.decreases-fill_joins
-decreases-fill_joins l = 2 + 16 * l.level
+decreases-fill_joins l = 3 + 16 * l.level
 
 abbrev pub decreases-joins : goal.decreases-joins
-decreases-joins l = 3 + 16 * l.level
+decreases-joins l = 4 + 16 * l.level
 
 abbrev pub decreases-element : goal.decreases-element
-decreases-element l = 3 + 16 * l.level
+decreases-element l = 5 + 16 * l.level
 
 abbrev pub decreases-target : goal.decreases-target
-decreases-target l = 4 + 16 * l.level
+decreases-target l = 6 + 16 * l.level
 
 abbrev pub decreases-target_or_record : goal.decreases-target_or_record
-decreases-target_or_record l = 5 + 16 * l.level
+decreases-target_or_record l = 7 + 16 * l.level
 
 abbrev pub decreases-piped_target : goal.decreases-piped_target
-decreases-piped_target l = 5 + 16 * l.level
+decreases-piped_target l = 7 + 16 * l.level
 
 abbrev pub decreases-fill_pipes : goal.decreases-fill_pipes
-decreases-fill_pipes l = 6 + 16 * l.level
+decreases-fill_pipes l = 8 + 16 * l.level
 
 abbrev pub decreases-pipes : goal.decreases-pipes
-decreases-pipes l = 7 + 16 * l.level
+decreases-pipes l = 9 + 16 * l.level
 
 abbrev pub decreases-wanted : goal.decreases-wanted
-decreases-wanted l = 2 + 16 * l.level
+decreases-wanted l = 3 + 16 * l.level
 
 abbrev pub decreases-separator : goal.decreases-separator
-decreases-separator l = 3 + 16 * l.level
+decreases-separator l = 4 + 16 * l.level
 
 abbrev pub decreases-split : goal.decreases-split
-decreases-split l = 4 + 16 * l.level
+decreases-split l = 5 + 16 * l.level
 
 abbrev pub decreases-getline : goal.decreases-getline
-decreases-getline l = 6 + 16 * l.level
+decreases-getline l = 8 + 16 * l.level
 
 abbrev pub decreases-fill_arguments : goal.decreases-fill_arguments
 decreases-fill_arguments l = 2 + 16 * l.level
@@ -71,21 +92,26 @@ abbrev pub decreases-call : goal.decreases-call
 decreases-call l = 4 + 16 * l.level
 
 abbrev pub decreases-called : goal.decreases-called
-decreases-called l = 3 + 16 * l.level
+decreases-called l = 6 + 16 * l.level
 
 abbrev pub decreases-located : goal.decreases-located
-decreases-located l = 3 + 16 * l.level
+decreases-located l = 4 + 16 * l.level
 
 abbrev pub decreases-plain : goal.decreases-plain
-decreases-plain l = 4 + 16 * l.level
+decreases-plain l = 7 + 16 * l.level
 
 abbrev pub decreases-builtin : goal.decreases-builtin
-decreases-builtin l = 5 + 16 * l.level
+decreases-builtin l = 8 + 16 * l.level
 
 abbrev pub invariant-fill-loop-x : goal.invariant-fill-loop-x
 invariant-fill-loop-x l = map (code.view (names_in l.context)) l.initial.out ++ map (lowered (scope_in l.context))
     (map view l.xs) ≡ map (code.view (names_in l.context)) l.out ++ map (lowered (scope_in l.context))
     (map view (drop l.x-index l.xs))
+
+abbrev pub invariant-fill_texts-loop-x : goal.invariant-fill_texts-loop-x
+invariant-fill_texts-loop-x l = map (code.view (names_in l.context)) l.initial.out
+    ++ map (lowered_text (scope_in l.context) l.place) (map view l.xs) ≡ map (code.view (names_in l.context)) l.out
+    ++ map (lowered_text (scope_in l.context) l.place) (map view (drop l.x-index l.xs))
 
 abbrev pub invariant-fill_terms-loop-x : goal.invariant-fill_terms-loop-x
 invariant-fill_terms-loop-x l = map (code.view_term (names_in l.context)) l.initial.out

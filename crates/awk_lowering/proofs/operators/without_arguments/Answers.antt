@@ -1,4 +1,4 @@
-use Rattle.std.proofs.Common.{◌≡◌, refl, map}
+use Rattle.std.proofs.Common.{◌≡◌, refl}
 use Rattle.awk_text.specs.declared.place.Place.{Place}
 use Rattle.awk_program.proofs.Views.{view-Builtin, view-Number}
 use Rattle.awk_program.specs.Program as p

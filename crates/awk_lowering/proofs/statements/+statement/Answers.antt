@@ -32,7 +32,7 @@ statement-returns-in-Printf t c =
 pub statement-returns-in-Delete : goal.statement-returns-in-Delete
 statement-returns-in-Delete t c =
     let v = rw c.bytes.ensures at c.variable-v.ensures in
-    let xs = rw c.as_slice-in-Delete.ensures at c.list.ensures in
+    let xs = rw c.as_slice-in-Delete.ensures at c.texts.ensures in
     rw (c.in-Delete.is, statement-Delete) (c.delete_of.ensures _ _ _ v xs)
 
 pub statement-returns-in-DeleteAll : goal.statement-returns-in-DeleteAll

@@ -5,7 +5,7 @@ use Rattle.awk_program.proofs.Views.{view-Number, view-Text, view-Pattern, view-
 use Rattle.awk_program.proofs.Views.{view-Step, view-Not, view-Signed, view-Chain, view-Concat, view-Compare}
 use Rattle.awk_program.proofs.Views.{view-Match, view-In, view-Group, view-And, view-Or, view-Choice, view-Call}
 use Rattle.awk_program.proofs.Views.{view-Getline, view-GetlineFile, view-Pipe, view-Builtin, view-Count, view-Locate}
-use Rattle.awk_program.proofs.Views.{view-Split, view-Substitute}
+use Rattle.awk_program.proofs.Views.{view-Split, view-Substitute, view-AsText}
 use Rattle.box_policy.specs.declared.policy.Kind.TheVariants as kind
 use Rattle.box_listing.specs.Sites as spec
 use Rattle.box_listing.proofs.Finding.{same, then}
@@ -44,6 +44,10 @@ expression-returns-in-Not t c = same _ _ _ _ (λ n. spec.value (view n c.args.e.
 pub expression-returns-in-Signed : goal.expression-returns-in-Signed
 expression-returns-in-Signed t c = same _ _ _ _ (λ n. spec.value (view n c.args.e.now)) c.expression-in-Signed.ensures
     (λ n. rw (c.get-in-Signed.ensures, c.in-Signed.is, view-Signed) refl)
+
+pub expression-returns-in-AsText : goal.expression-returns-in-AsText
+expression-returns-in-AsText t c = same _ _ _ _ (λ n. spec.value (view n c.args.e.now)) c.expression-in-AsText.ensures
+    (λ n. rw (c.get-in-AsText.ensures, c.in-AsText.is, view-AsText) refl)
 
 pub expression-returns-in_ok-expression-in-Chain : goal.expression-returns-in_ok-expression-in-Chain
 expression-returns-in_ok-expression-in-Chain t c = then _ _ _ _ _ _ (λ n. spec.value (view n c.args.e.now))
