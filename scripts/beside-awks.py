@@ -2,9 +2,9 @@
 """Runs random scripts by awkbox and by the other awks that are installed, and compares what comes of them.
 
 The scripts and their inputs are of the common part of the language: whole numbers of moderate size, with `--numbers
-double` fractions too, and nothing of what docs/LANGUAGE.md lists under "Where other awks answer otherwise". Each runs
-in a folder of its own, awkbox under a policy that allows what the scripts ask for. Compared are the exit status, the
-standard output and the files left.
+double` fractions too, by OFMT and CONVFMT that they set, and nothing of what docs/LANGUAGE.md lists under "Where other
+awks answer otherwise". Each runs in a folder of its own, awkbox under a policy that allows what the scripts ask for.
+Compared are the exit status, the standard output and the files left.
 
 A script fails where all other awks agree with one another and awkbox answers otherwise; where a single other awk is
 installed, where the two differ. A script is undecided, and only counted, where the others do not agree, where a run
@@ -266,10 +266,14 @@ main-block
 """
 
 # What stands in the grammar beside it with `--numbers double`. A quotient may be a negative zero in other awks, which
-# the sum with 0 is not; what is printed of a fraction goes by OFMT and CONVFMT, which stay as they are.
+# the sum with 0 is not. OFMT and CONVFMT are set by statements alone, since other awks look at them later within an
+# expression. A number that is compared with a text, or that a field is set to, is whole: awkbox makes the text of
+# another one by `%.6g` there, and other awks by CONVFMT.
 FRACTIONS = r"""
 number
-    6 operand <decimal>
+    1 operand length(<number>)
+    1 operand index(<number>, ".")
+    9 operand <decimal>
     4 sum <number:product> / <divisor> + 0
     2 sum <number:product> / <decimal> + 0
     2 product <positive:product> * <decimal>
@@ -278,12 +282,44 @@ number
     1 sum <number:product> % <decimal> + 0
 power
     1 power <few> ^ <decimal>
+any
+    7 operand (<number>)
+text
+    4 concatenation <any:concatenation> (<number>)
+    2 operand substr(<number>, <place>)
+    1 operand toupper(<number>)
+    1 operand tolower(<number>)
+    2 operand sprintf(<number>)
+condition
+    2 and length($<place>) && ${place} <comparison> <few>
+    1 comparison <text:concatenation> <comparison> <few>
+    1 match <number:comparison> ~ <regex>
+    1 match <text:comparison> ~ <number-pattern>
+number-pattern
+    1 operand (<number>)
+key
+    3 operand <decimal>
+    1 operand (<number>)
+    1 any <decimal>, <few>
+text-format
+    1 any CONVFMT = <number-format>
 statement
-    4 any <number-target> += <decimal>
+    6 any <text-format>
+    6 any OFMT = <number-format>
+    1 any OFMT = "%+.2f"
+    2 any <number-target> = split(<number>, <piece-array>, ".")
+    2 any if (match(<number>, <regex>)) print RSTART, RLENGTH
+    2 any if (length(<text-target>) < 60) <number-target> = gsub(<regex>, <number>, {text-target})
+    2 any print <items> > <file-number>; close({file-number})
+    1 any print <items> >> <file-number>; close({file-number})
+    2 any while ((getline <text-target> < <file-number>) > 0) <print-block>; close({file-number})
+    7 any <number-target> += <decimal>
     2 any <number-target> = <number:product> / <divisor> + 0
     2 any <number-array>[<key>] += <decimal>
     2 any if (length($<place>)) <number-array>[<key>] += ${place}
     3 any printf <format>
+rule
+    9 any BEGIN { <text-format>; OFMT = <number-format> }
 """
 
 # What a part becomes where it is made as small as it goes.
@@ -414,13 +450,25 @@ def read_grammar(text):
 FORMS = read_grammar(GRAMMAR)
 
 
+def mixes(form):
+    """Whether a form compares a number with what may be a text."""
+    return {"comparison", "number"} <= form.kinds and bool(form.kinds & {"text", "place"})
+
+
 def add_fractions():
-    """What `--numbers double` adds to the grammar, to the conversions of printf and to the numbers of the input."""
+    """What `--numbers double` changes: in the grammar, printf's conversions, the input and what a case begins with."""
+    FORMS["condition"] = [form for form in FORMS["condition"] if not mixes(form)]
     for kind, forms in read_grammar(FRACTIONS).items():
-        FORMS[kind] += forms
-        SHALLOW[kind] += [form for form in forms if not form.kinds & DEEP]
+        FORMS[kind] = FORMS.get(kind, []) + forms
+        SHALLOW[kind] = SHALLOW.get(kind, []) + [form for form in forms if not form.kinds & DEEP] or forms
     DIRECTIVES.extend((conversion, "number", ["-", "+", " ", "0", "-+", "#"]) for conversion in "eEfffggG")
+    DIRECTIVES.append(("s", "number", ["-"]))
+    STATES[:] = [FRACTIONS_STATE]
+    START_ROWS.append("numbers | double")
     LINE_NUMBERS.extend(["1.5", ".25", "-0.75", "1e3", "2.50", "3.0", "+.5", "12.", "1e-2", "0.1", "99.95"])
+    # v stands for a number, which is compared with others, so it is no text
+    OPTIONS[:] = [option for option in OPTIONS if ("-v", "v=a:1") not in option] + FORMAT_OPTIONS
+    OPERANDS[:] = [operand for operand in OPERANDS if "v=a1" not in operand] + FORMAT_OPERANDS
 
 
 # Numbers that the input has.
@@ -443,6 +491,8 @@ WORDS = {
     "comparison": ["<", "<=", "==", "!=", ">", ">="],
     "letter": list("aaabbbcc012:, "),
     "separator": ['":"', '" "', '","', "/[:,]/", "/b+/", '"[ab]"', '"a|:"', "/, */", "SUBSEP"],
+    "number-format": [f'"%{format}"' for format in ".2f .3f .1f .0f 8.3f -7.1f .3g .10g e .2e G .6g".split()],
+    "file-number": ["0.5", ".25", "1.75", "(1 / 8)"],
     "text-array": ["B"],
     "piece-array": ["C"],
 }
@@ -469,6 +519,10 @@ STATE = """END {
     for (k in A) print "A", k, A[k] | "sort > sorted"
     for (k in B) print "B", k, B[k] | "sort > sorted"
 }"""
+STATES = [STATE]
+
+# With fractions the same, and texts of some by OFMT and by CONVFMT.
+FRACTIONS_STATE = STATE.replace("END {", 'END {\n    print n1 / 7 + .0625, n2 / 7 + .0625 ":" n3 / 8 + .0625')
 
 
 def kinds_within(kind):
@@ -664,7 +718,7 @@ class Maker:
         items = list(self.make_functions())
         items += [self.make("rule", 4) for _ in range(self.pick([1, 2, 2, 3, 4]))]
         if self.choose.random() < 0.7:
-            items.append(leaf("rule", STATE))
+            items.append(leaf("rule", self.pick(STATES)))
         return Node("script", 0, tuple(Part(item, 0, "rule") for item in items))
 
 
@@ -710,6 +764,20 @@ OPERANDS = [
     (),
     ("-",),
     ("in2", "-"),
+]
+
+# What each row begins with.
+START_ROWS = ["bound | 100000"]
+
+# What scripts with fractions are started with too.
+FORMAT_OPTIONS = [
+    (("-v", "OFMT=%.2f"),),
+    (("-v", "CONVFMT=%.3g"),),
+    (("-v", "CONVFMT=%.1f"), ("-v", "OFMT=%.4g")),
+]
+FORMAT_OPERANDS = [
+    ("OFMT=%.1f", "in1"),
+    ("in1", "CONVFMT=%.2f", "in2"),
 ]
 
 
@@ -828,6 +896,12 @@ PROBES = [
     ({"interval"}, 'BEGIN { exit "aa" !~ /^a{2}$/ }', ()),
     ({"power", "power-assignment"}, "BEGIN { exit 2 ^ 2 != 4 }", ()),
     ({"RS="}, '{ exit $0 != "a" }', (("-v", "RS="),)),
+    (
+        {"text-format", "CONVFMT=%.2f"},
+        'BEGIN { x = 1 / 8; y = x ""; CONVFMT = "%.2f"; exit x "" != "0.12" }',
+        (),
+    ),
+    ({"number-pattern"}, 'BEGIN { CONVFMT = "%.2f"; exit "0.5" ~ 0.5 }', ()),
 ]
 
 
@@ -841,7 +915,7 @@ def probed(awk):
 
 
 def needs(case):
-    return {node.kind for node in case.script.nodes()} | {text for _, text in case.options}
+    return {node.kind for node in case.script.nodes()} | {text for _, text in case.options} | {*case.operands}
 
 
 @dataclass(frozen=True)
@@ -987,7 +1061,7 @@ def command_rows(case):
 
 
 def start_rows(case):
-    yield "bound | 100000"
+    yield from START_ROWS
     for option, text in case.options:
         name, _, value = text.partition("=")
         words = ["separator", text] if option == "-F" else ["assign", name, value]

@@ -2795,6 +2795,27 @@ script 'BEGIN { x = 1.5; print x + 1e3, 7 / 2, 2 ^ .5; printf "%.2f %d\n", 10 / 
 run --numbers double
 is 0 "1001.5 3.5 1.41421${line}3.33 2$line" "" ""
 verdict "a run with doubles"
+script 'BEGIN { OFMT = "%.2f"; CONVFMT = "%.1f"; x = 3.14159; a[x] = 2; print x, x "", 3, 3 "", a[3.1], ("3.1" in a) }'
+run --numbers double
+is 0 "3.14 3.1 3 3 2 1$line" "" ""
+verdict "a run with OFMT and CONVFMT"
+script 'BEGIN { print 2 / 3, 2.5 "", 2 ^ 53 }'
+run --numbers double -v OFMT=%.3f -v CONVFMT=%d
+is 0 "0.667 2 9007199254740992$line" "" ""
+verdict "OFMT and CONVFMT of the command line"
+script 'BEGIN { OFMT = "%s"; print 1; print 1.5 }'
+run --numbers double
+is 2 "1$line" "awkbox: 1:31 F4 bad format$line" ""
+verdict "an OFMT that is no format of a number"
+policy "effect = \"allow\"
+kind = \"write\"
+match = \"$base/out/0.50\""
+script 'BEGIN { CONVFMT = "%.2f"; print 1.5 > "out/" 0.5 }'
+run --numbers double
+is 0 "" "" "" && holds out/0.50 "1.5$line"
+verdict "a file that CONVFMT names"
+rm -f out/0.50
+no_rules
 script 'BEGIN { print srand(), srand(), int(rand()) }'
 run --numbers double --seed 7
 is 0 "0 7 0$line" "" ""

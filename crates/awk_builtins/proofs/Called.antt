@@ -20,7 +20,7 @@ use Rattle.awk_machine.specs.Builtins.{of_one, seed_in, seeds, text_at}
 use Rattle.awk_machine.specs.Flushing.{flush}
 use Rattle.awk_machine.specs.Forms.{listed}
 use Rattle.awk_machine.specs.Pieces.{Piece, Task, At, Do, Value_of, give}
-use Rattle.awk_machine.specs.State.{Given, State}
+use Rattle.awk_machine.specs.State.{Course, Given, State}
 use Rattle.awk_machine.specs.Streams.{seen}
 use Rattle.awk_streams.specs.Chains.{Leads, result_at}
 use Rattle.awk_streams.specs.Tables.{open_of}
@@ -28,6 +28,7 @@ use Rattle.awk_streams.proofs.Chain.{at_once, quiet}
 use Rattle.awk_store.specs.Acts.{Acts}
 use Rattle.awk_store.specs.Changes.{with_random}
 use Rattle.awk_store.specs.Kept.{Kept}
+use Rattle.awk_store.specs.States.{Hidden}
 use Rattle.awk_store.specs.Wholes.{Whole, Agreeing, base, used}
 use Rattle.awk_store.proofs.Acting.{alters, at_rest, done}
 use Rattle.awk_builtins.proofs.Granted.{Grants, given_so}
@@ -53,6 +54,12 @@ module _ (g : Given) (w : Whole) (place : Place) (which : Builtin) (xs : Express
       → ((s : State) → s.numbers ≡ w.0.numbers → effect place which vs s ≡ Gives made)
       → Grants g w calling place give made
   grants_made made is k hid c a = comes (Gives made) k (seen (base g w hid) c) (is (seen (base g w hid) c) refl)
+
+  -- the same, by what the state agrees with
+  pub grants_by : (made : Result Value Fault)
+      → ((hid : Hidden) (c : Course) → Agreeing g w hid c → effect place which vs (seen (base g w hid) c) ≡ Gives made)
+      → Grants g w calling place give made
+  grants_by made is k hid c a = comes (Gives made) k (seen (base g w hid) c) (is hid c a)
 
   pub gives_made : (made : Result Value Fault)
       → ((s : State) → s.numbers ≡ w.0.numbers → effect place which vs s ≡ Gives made)

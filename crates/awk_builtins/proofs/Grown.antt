@@ -149,6 +149,14 @@ module _ (g : Given) (w : Whole) where
   operands_first x xs val h = on (moves {then_ = λ k. value x ∷ At (Texts_of xs) [] ∷ k} (at_rest _ w)
       (λ k hid d a. refl)) h
 
+-- ---- the first operand
+
+-- what reads a variable, where that holds a text
+pub holds_text : (g : Given) (w : Whole) (x : Variable) (first : Expression) (old : Text) → kept.is_nf x ≡ false
+    → first ≡ p.read (p.variable (variable_of (names_in g) x)) → kept.value w.0 x ≡ v.Text old
+    → Passes g (value first) w (give (v.Text old)) w
+holds_text g w x first old n reads holds = rw (reads, sym holds) (variable_there g w x n)
+
 -- ---- the whole assignment
 
 module _ (g : Given) (w : Whole) (place : Place) (x : Variable) (n : kept.is_nf x ≡ false) (first : Expression)
@@ -164,14 +172,13 @@ module _ (g : Given) (w : Whole) (place : Place) (x : Variable) (n : kept.is_nf 
       (moves {to = λ k. At (Target_of (p.variable (variable_of (names_in g) x))) [] ∷ At (Value_of assigned) [] ∷ k}
       (moves (at_rest _ w) (λ k hid d a. refl)) (λ k hid d a. refl)) (λ k hid d a. refl)) (λ k hid d a. refl)
 
-  pub assigns : (room : ℕ) (new : Kept) → first ≡ p.read (p.variable (variable_of (names_in g) x))
-      → kept.value w.0 x ≡ v.Text old → length old + room ≤ most_bytes → Follows g w xs room more →
+  pub assigns : (room : ℕ) (new : Kept) → Passes g (value first) w (give (v.Text old)) w
+      → length old + room ≤ most_bytes → Follows g w xs room more →
       new ≡ with_value x (v.Text (old ++ more)) w.0 → Passes g (value assigned) w (give (v.Text (old ++ more))) (
         new,
         w.1,
       )
-  assigns room new reads holds fits follows same =
-      let read : Passes g (value first) w (give (v.Text old)) w = rw (reads, sym holds) (variable_there g w x n) in
+  assigns room new read fits follows same =
       let text : Passes g (value assigned) w (λ k. At (Value_of assigned) (v.Text (old ++ more) ∷ v.Unset ∷ []) ∷ k) w =
       on (on waits read) (follows old fits) in
       moves (doing (tt {0})

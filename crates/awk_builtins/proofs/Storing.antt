@@ -3,6 +3,7 @@ use Rattle.std.proofs.Common.{◌≡◌, refl, ℤ, false, [], ◌∷◌}
 use Rattle.std.specs.Prelude.{Some, Ok}
 use Rattle.awk_numbers.specs.declared.number.Number.{Number}
 use Rattle.awk_numbers.specs.declared.number.Number.TheVariants as number
+use Rattle.awk_numbers.specs.declared.number.Numbers.{Numbers}
 use Rattle.awk_text.specs.Values.{number_of, of_number}
 use Rattle.awk_text.specs.declared.place.Place.{Place}
 use Rattle.awk_text.specs.declared.value.Value.{Value}
@@ -72,6 +73,11 @@ module _ (g : Given) (old new : Whole) (place : Place) (r : p.Reference) (at : V
       doing was (moves {then_ = λ k. Do (Get (target r at)) ∷ At part (at ∷ []) ∷ k}
       (on (moves {then_ = λ k. spot r ∷ At part [] ∷ k} (at_rest _ old) (λ k hid d a. refl)) there)
       (λ k hid d a. refl)) get refl
+
+-- the number of the value that a number is
+pub number_back : (numbers : Numbers) (n : Number) → number_of numbers (of_number n) ≡ Ok n
+number_back numbers (number.Whole n) = refl
+number_back numbers (number.Real x) = refl
 
 -- a variable that is not NF
 module _ (g : Given) (w : Whole) (new : Kept) (place : Place) (x : Variable) (n : kept.is_nf x ≡ false) where

@@ -10,3 +10,4 @@ pub mod Patterns
 pub mod Printed
 pub mod Searches
 pub mod Searching
+pub mod Shown

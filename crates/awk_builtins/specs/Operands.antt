@@ -9,6 +9,7 @@ use Rattle.awk_builtins.specs.declared.operands.Binary.TheVariants as two
 abbrev pub unary_of : Unary → Expression → Expression
 unary_of one.Not x = p.not x
 unary_of (one.Signed place how) x = p.signed place how x
+unary_of (one.AsText place) x = p.as_text place x
 unary_of (one.Builtin place which) x = p.builtin place which (p.more x p.none)
 
 abbrev pub binary_of : Binary → Expression → Expression → Expression

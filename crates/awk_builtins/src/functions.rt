@@ -224,7 +224,7 @@ pub fn called<W: World>(
         Builtin::Log => number_at(place, logarithm_of(numbers, argument(args, 0))),
         Builtin::Rand => Ok(Value::of(store.draw())),
         Builtin::Sin => number_at(place, sine_of(numbers, argument(args, 0))),
-        Builtin::Sprintf => sprintf(alloc, numbers, place, args),
+        Builtin::Sprintf => sprintf(alloc, store, place, args),
         Builtin::Sqrt => number_at(place, square_root_of(numbers, argument(args, 0))),
         Builtin::Srand => srand(store, place, args),
         Builtin::Substr => substr_in(alloc, numbers, place, args),

@@ -22,4 +22,5 @@ pub mod patterns;
 pub mod printing;
 pub mod replacements;
 pub mod searches;
+mod shown;
 pub mod splits;

@@ -11,9 +11,10 @@ ghost use Rattle.std.specs.Prelude.{[], ◌∷◌};
 use crate::functions::called;
 use crate::made::number_at;
 use crate::operators::{compared, signed, truth_value};
+use crate::shown::as_text;
 use awk_program::{Builtin, Comparison, Sign};
 use awk_store::Store;
-use awk_streams::halt::Halt;
+use awk_streams::halt::{Halt, at};
 use awk_streams::streams::Streams;
 use awk_text::place::Place;
 use awk_text::value::{Value, truth};
@@ -27,6 +28,8 @@ pub enum Unary {
     Not,
     /// `- operand`
     Signed(Place, Sign),
+    /// An operand of which a text is wanted
+    AsText(Place),
     /// A built-in function of one argument
     Builtin(Place, Builtin),
 }
@@ -59,6 +62,7 @@ impl Unary {
         match self {
             Unary::Not => Ok(truth_value(!truth(store.numbers(), &value))),
             Unary::Signed(place, how) => number_at(place, signed(store.numbers(), how, &value)),
+            Unary::AsText(place) => at(place, as_text(alloc, store, value)),
             Unary::Builtin(place, which) => {
                 called(alloc, store, place, which, &[value], streams, world)
             }

@@ -1,9 +1,10 @@
 // The texts that print, printf and sprintf make.
 ghost use Rattle.awk_builtins.specs.Outputs.{to_standard, to_stream};
 ghost use Rattle.awk_builtins.specs.Printed as line_spec;
-ghost use Rattle.awk_builtins.specs.Printed.{items};
+ghost use Rattle.awk_builtins.specs.Printed.{by_ofmt};
+ghost use Rattle.awk_builtins.specs.Shown.{formatted_by};
 ghost use Rattle.awk_fields.specs.Rows.{joined};
-ghost use Rattle.awk_machine.specs.Builtins as spec;
+ghost use Rattle.awk_format.specs.NumberTexts.{all_shown, is_usual};
 ghost use Rattle.awk_machine.specs.Forms.{listed};
 ghost use Rattle.awk_machine.specs.Operators.{limited};
 ghost use Rattle.awk_machine.specs.Pieces.{At, Doing, Value_of, give};
@@ -21,8 +22,7 @@ ghost use Rattle.std.specs.Prelude.{Err, IfErr, IfOk, List, None, Ok, Some, leng
 
 use crate::line::Line;
 use crate::made::text_at;
-use awk_format::format;
-use awk_numbers::number::Numbers;
+use awk_format::number_texts::{all_shown, format_with, is_usual};
 use awk_program::{Own, Redirection};
 use awk_store::Store;
 use awk_streams::halt::{Halt, at};
@@ -34,17 +34,22 @@ use awk_text::texts::MOST_BYTES;
 use awk_text::value::{Value, text_in};
 use std::alloc::Global;
 
-/// The text that sprintf and printf make, by the profile: the first value is the format, and an absent one is empty.
+/// The text that sprintf and printf make, by the store's profile: the first value is the format, and an absent one is
+/// empty. Numbers with a fraction that it shows as texts go by CONVFMT.
 ///
-/// Fails as `awk_format::format` does.
-pub fn formatted_by(alloc: Global, numbers: Numbers, values: &[Value]) -> Result<Vec<u8>, Fault>
-    ensures ok { IfOk result (λ text. spec.formatted_by numbers values.now ≡ Ok text.items) }
-    ensures err { IfErr result (λ e. (e ≡ Fault.Memory) ⊎ (spec.formatted_by numbers values.now ≡ Err e)) }
+/// Fails as `awk_format::number_texts::format_with` does.
+fn formatted_by(alloc: Global, store: &Store, values: &[Value]) -> Result<Vec<u8>, Fault>
+    ensures ok { IfOk result (λ text. formatted_by store.now values.now ≡ Ok text.items) }
+    ensures err { IfErr result (λ e. (e ≡ Fault.Memory) ⊎ (formatted_by store.now values.now ≡ Err e)) }
 {
-    let mut buffer = Buffer::new();
+    let numbers = store.numbers();
+    let (mut first, mut second) = (Buffer::new(), Buffer::new());
+    let by = store.own_text(Own::Convfmt, &mut first);
     match values {
-        [] => format(alloc, numbers, &[], &[]),
-        [first, others @ ..] => format(alloc, numbers, text_in(first, &mut buffer), others),
+        [] => format_with(alloc, numbers, by, &[], &[]),
+        [format, others @ ..] => {
+            format_with(alloc, numbers, by, text_in(format, &mut second), others)
+        }
     }
 }
 
@@ -63,7 +68,12 @@ pub fn printed(line: &mut Line, items: &[Value], ofs: &[u8], ors: &[u8]) -> Resu
 
 /// The texts of the items with OFS between, or of the whole record where there are none, and then ORS. It is made in
 /// the line, and taken out of it; its room serves the next one once `Line::reuse` gives it back.
-pub fn text_of_items(line: &mut Line, store: &mut Store, items: &[Value]) -> Result<Octets, Fault>
+fn text_of_items(
+    alloc: Global,
+    line: &mut Line,
+    store: &mut Store,
+    items: &[Value],
+) -> Result<Octets, Fault>
     ensures ok { IfOk result (λ text. line_spec.printed store.old items.now ≡ Ok text) }
     ensures err { IfErr result (λ e. (e ≡ Fault.Memory) ⊎ (line_spec.printed store.old items.now ≡ Err e)) }
     ensures same { store.new ≡ store.old }
@@ -71,8 +81,45 @@ pub fn text_of_items(line: &mut Line, store: &mut Store, items: &[Value]) -> Res
     if items.is_empty() {
         text_of_record(line, store)
     } else {
-        text_of_values(line, store, items)
+        text_by_ofmt(alloc, line, store, items)
     }
+}
+
+/// Whether OFMT makes the texts of numbers that they have anyway.
+pub(crate) fn is_ofmt_usual(store: &Store) -> bool
+    ensures { result ≡ is_usual store.now.numbers (own_text store.now own.Ofmt) }
+{
+    let mut buffer = Buffer::new();
+    let by = store.own_text(Own::Ofmt, &mut buffer);
+    is_usual(store.numbers(), by)
+}
+
+/// The items, of which numbers with a fraction are the texts that OFMT makes of them.
+fn shown_items(alloc: Global, store: &Store, items: &[Value]) -> Result<Vec<Value>, Fault>
+    ensures ok { IfOk result (λ made. all_shown (own_text store.now own.Ofmt) items.now ≡ Ok made.items) }
+    ensures err { IfErr result
+        (λ e. (e ≡ Fault.Memory) ⊎ (all_shown (own_text store.now own.Ofmt) items.now ≡ Err e)) }
+{
+    let mut buffer = Buffer::new();
+    let by = store.own_text(Own::Ofmt, &mut buffer);
+    all_shown(alloc, by, items)
+}
+
+/// The texts of some items with OFS between, and what ends them. Numbers with a fraction go by OFMT.
+fn text_by_ofmt(
+    alloc: Global,
+    line: &mut Line,
+    store: &Store,
+    items: &[Value],
+) -> Result<Octets, Fault>
+    ensures ok { IfOk result (λ text. by_ofmt store.now items.now ≡ Ok text) }
+    ensures err { IfErr result (λ e. (e ≡ Fault.Memory) ⊎ (by_ofmt store.now items.now ≡ Err e)) }
+{
+    if is_ofmt_usual(store) {
+        return text_of_values(line, store, items);
+    }
+    let shown = shown_items(alloc, store, items)?;
+    text_of_values(line, store, shown.as_slice())
 }
 
 /// The texts of some items with OFS between, and what ends them.
@@ -117,29 +164,25 @@ pub fn ended(line: &mut Line, whole: &[u8], ors: &[u8]) -> Result<Octets, Fault>
 }
 
 /// The text that a format and its values make.
-fn text_of_format(alloc: Global, numbers: Numbers, values: &[Value]) -> Result<Octets, Fault>
-    ensures ok { IfOk result (λ text. spec.formatted_by numbers values.now ≡ Ok text) }
-    ensures err { IfErr result (λ e. (e ≡ Fault.Memory) ⊎ (spec.formatted_by numbers values.now ≡ Err e)) }
+fn text_of_format(alloc: Global, store: &Store, values: &[Value]) -> Result<Octets, Fault>
+    ensures ok { IfOk result (λ text. formatted_by store.now values.now ≡ Ok text) }
+    ensures err { IfErr result (λ e. (e ≡ Fault.Memory) ⊎ (formatted_by store.now values.now ≡ Err e)) }
 {
-    Ok(Octets::new(formatted_by(alloc, numbers, values)?))
+    Ok(Octets::new(formatted_by(alloc, store, values)?))
 }
 
 /// What `sprintf ( format , list )` gives by the store's profile: the first value is the format.
-pub fn sprintf(
-    alloc: Global,
-    numbers: Numbers,
-    place: Place,
-    values: &[Value],
-) -> Result<Value, Halt>
-    ensures { (g : Given) (w : Whole) (xs : Expressions) → numbers ≡ w.0.numbers
-        → length (listed xs) ≡ length values.now
-        → Acts g (At (Value_of (p.builtin place b.Sprintf xs)) (reverse values.now)) give w result w }
+pub fn sprintf(alloc: Global, store: &Store, place: Place, values: &[Value]) -> Result<Value, Halt>
+    ensures { (g : Given) (t : Table) (xs : Expressions) → length (listed xs) ≡ length values.now
+        → Acts g (At (Value_of (p.builtin place b.Sprintf xs)) (reverse values.now)) give (store.now, t) result
+        (store.now, t) }
 {
-    text_at(place, text_of_format(alloc, numbers, values))
+    text_at(place, text_of_format(alloc, store, values))
 }
 
 /// The text that print puts to the standard output.
 pub fn printed_line(
+    alloc: Global,
     line: &mut Line,
     store: &mut Store,
     place: Place,
@@ -149,25 +192,26 @@ pub fn printed_line(
         → Acts g (At (Doing (p.print place xs None)) (reverse items.now)) (to_standard place) (store.old, t) result
         (store.new, t) }
 {
-    at(place, text_of_items(line, store, items))
+    at(place, text_of_items(alloc, line, store, items))
 }
 
 /// The text that printf puts to the standard output, by the store's profile: the first value is the format.
 pub fn formatted_line(
     alloc: Global,
-    numbers: Numbers,
+    store: &Store,
     place: Place,
     values: &[Value],
 ) -> Result<Octets, Halt>
-    ensures { (g : Given) (w : Whole) (x : Expression) (xs : List Expression) → numbers ≡ w.0.numbers
-        → length (x ∷ xs) ≡ length values.now
-        → Acts g (At (Doing (p.printf place x xs None)) (reverse values.now)) (to_standard place) w result w }
+    ensures { (g : Given) (t : Table) (x : Expression) (xs : List Expression) → length (x ∷ xs) ≡ length values.now
+        → Acts g (At (Doing (p.printf place x xs None)) (reverse values.now)) (to_standard place) (store.now, t) result
+        (store.now, t) }
 {
-    at(place, text_of_format(alloc, numbers, values))
+    at(place, text_of_format(alloc, store, values))
 }
 
 /// The text that print puts to the stream of this name.
 pub fn printed_for(
+    alloc: Global,
     line: &mut Line,
     store: &mut Store,
     place: Place,
@@ -178,21 +222,21 @@ pub fn printed_for(
         → Acts g (At (Doing (p.print place xs (Some r))) (name.now ∷ reverse items.now)) (to_stream r name.now)
         (store.old, t) result (store.new, t) }
 {
-    at(place, text_of_items(line, store, items))
+    at(place, text_of_items(alloc, line, store, items))
 }
 
 /// The text that printf puts to the stream of this name, by the store's profile: the first value is the format.
 pub fn formatted_for(
     alloc: Global,
-    numbers: Numbers,
+    store: &Store,
     place: Place,
     values: &[Value],
     name: &Value,
 ) -> Result<Octets, Halt>
-    ensures { (g : Given) (w : Whole) (x : Expression) (xs : List Expression) (r : Redirection Expression) →
-        numbers ≡ w.0.numbers → length (x ∷ xs) ≡ length values.now
-        → Acts g (At (Doing (p.printf place x xs (Some r))) (name.now ∷ reverse values.now)) (to_stream r name.now) w
-        result w }
+    ensures { (g : Given) (t : Table) (x : Expression) (xs : List Expression) (r : Redirection Expression) →
+        length (x ∷ xs) ≡ length values.now
+        → Acts g (At (Doing (p.printf place x xs (Some r))) (name.now ∷ reverse values.now)) (to_stream r name.now)
+        (store.now, t) result (store.now, t) }
 {
-    at(place, text_of_format(alloc, numbers, values))
+    at(place, text_of_format(alloc, store, values))
 }

@@ -109,7 +109,13 @@ fn general_print<W: World, E: Evaluates<W>>(
 {
     let mut values = Vec::new(cx.alloc);
     fill(cx, xs, &mut values, on, run, world)?;
-    let text = printed_line(&mut run.line, &mut run.store, place, values.as_slice())?;
+    let text = printed_line(
+        cx.alloc,
+        &mut run.line,
+        &mut run.store,
+        place,
+        values.as_slice(),
+    )?;
     let room = put(place, STANDARD_OUTPUT, text, world)?;
     run.line.reuse(room);
     Ok(Flow::On)
@@ -136,6 +142,7 @@ fn general_redirect<W: World, E: Evaluates<W>>(
     fill(cx, xs, &mut values, on, run, world)?;
     let target = on.value(cx, &to.target, run, world)?;
     let text = printed_for(
+        cx.alloc,
         &mut run.line,
         &mut run.store,
         place,
@@ -178,14 +185,14 @@ pub fn printf<W: World, E: Evaluates<W>>(
     append(&mut values, format)?;
     fill(cx, xs, &mut values, on, run, world)?;
     let Some(to) = to else {
-        let text = formatted_line(cx.alloc, run.store.numbers(), place, values.as_slice())?;
+        let text = formatted_line(cx.alloc, &run.store, place, values.as_slice())?;
         put(place, STANDARD_OUTPUT, text, world)?;
         return Ok(Flow::On);
     };
     let target = on.value(cx, &to.target, run, world)?;
     let text = formatted_for(
         cx.alloc,
-        run.store.numbers(),
+        &run.store,
         place,
         values.as_slice(),
         &target,

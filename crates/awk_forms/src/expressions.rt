@@ -60,6 +60,7 @@ pub fn evaluate<W: World, E: Evaluates<W>>(
         Expr::Signed(place, how, x) => {
             unary(cx, Unary::Signed(*place, *how), x.get(), on, run, world)
         }
+        Expr::AsText(place, x) => unary(cx, Unary::AsText(*place), x.get(), on, run, world),
         Expr::Builtin(place, which, args) => {
             builtin(cx, *place, *which, args.as_slice(), on, run, world)
         }

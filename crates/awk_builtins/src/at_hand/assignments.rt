@@ -10,20 +10,22 @@ ghost use Rattle.awk_program.specs.Program.{expressions_of};
 ghost use Rattle.awk_program.specs.View.{variable_of, view, view_target};
 ghost use Rattle.awk_program.specs.declared.operators.StepValue.{StepValue as Which};
 ghost use Rattle.awk_store.specs.Acts.{Acts, Passes};
+ghost use Rattle.awk_store.specs.Kept as kept;
 ghost use Rattle.awk_store.specs.Wholes.{names_in};
 ghost use Rattle.awk_streams.specs.Tables.{Table};
 ghost use Rattle.awk_numbers.specs.declared.number.Number.TheVariants as number;
-ghost use Rattle.awk_numbers.specs.declared.number.Numbers.{Numbers};
+ghost use Rattle.awk_numbers.specs.declared.number.Numbers.{Numbers as Profile};
 ghost use Rattle.awk_text.specs.Arithmetic.{add};
+ghost use Rattle.awk_text.specs.Values.{of_number};
 ghost use Rattle.std.specs.Prelude.{ℤ, IfSome, None, false, map, true, ◌∷◌, ◌≡◌};
 
 use crate::at_hand::elements::{added_at, key_at_hand, number_of_key, put_at_number};
 use crate::at_hand::records::{is_keyed_by_field, is_unsplit, split_record, wants_split};
 use crate::at_hand::tests::chosen;
-use crate::at_hand::values::{MOST_LEVELS, number_at_hand, number_kept, value_at_hand};
+use crate::at_hand::values::{MOST_LEVELS, at_hand, number_at_hand, number_kept, value_at_hand};
 use crate::line::Line;
 use crate::operators::{operation, stepped};
-use awk_numbers::number::Number;
+use awk_numbers::number::{Number, Numbers};
 use awk_program::{Expr, Operator, Step, Target, Variable};
 use awk_store::{Store, is_nf};
 use awk_streams::halt::Halt;
@@ -102,6 +104,47 @@ fn assigned(
     assigned_element(alloc, store, line, *array, keys.as_slice(), x)
 }
 
+/// The number, which may have a fraction, that a variable holds that is not NF, if it holds one.
+fn any_number_kept(store: &Store, variable: Variable) -> Option<Number>
+    ensures nf { IfSome result (λ n. kept.is_nf variable ≡ false) }
+    ensures number { IfSome result (λ n. kept.value store.now variable ≡ of_number n) }
+{
+    if is_nf(variable) {
+        return None;
+    }
+    match store.value(variable)? {
+        Value::Num(number) => Some(Number::Whole(*number)),
+        Value::Real(number) => Some(Number::Real(*number)),
+        Value::Unset | Value::Text(_) | Value::Input(_) => None,
+    }
+}
+
+/// `variable += number`, and with the other operators, where numbers may have fractions. It stands out of line, so that
+/// whole numbers alone take a small frame.
+#[inline(never)]
+fn changed_by_any(store: &mut Store, how: Operator, variable: Variable, x: &Expr) -> bool
+    ensures done { result ≡ true → (place : Place) →
+        IsDone (λ names. p.change place how (p.variable (variable_of names variable)) (view names x.now)) store.old
+        store.new }
+    ensures not_done { result ≡ false → store.new ≡ store.old }
+{
+    let numbers = store.numbers();
+    let Some(value) = at_hand(store, x, MOST_LEVELS) else {
+        return false;
+    };
+    let Ok(operand) = value.number(numbers) else {
+        return false;
+    };
+    let Some(old) = any_number_kept(store, variable) else {
+        return false;
+    };
+    let Ok(new) = operation(numbers, how, old, operand) else {
+        return false;
+    };
+    store.set(variable, Value::of(new));
+    true
+}
+
 /// `variable += number`, and with the other operators.
 #[inline(always)]
 fn changed_variable(store: &mut Store, how: Operator, variable: Variable, x: &Expr) -> bool
@@ -110,6 +153,9 @@ fn changed_variable(store: &mut Store, how: Operator, variable: Variable, x: &Ex
         store.new }
     ensures not_done { result ≡ false → store.new ≡ store.old }
 {
+    if let Numbers::Double = store.numbers() {
+        return changed_by_any(store, how, variable, x);
+    }
     let Some(operand) = number_at_hand(store, x, MOST_LEVELS) else {
         return false;
     };
@@ -212,7 +258,7 @@ pub fn stepped_variable(
 
 /// What `++` and `--` add, by either profile.
 fn step_by(how: Step) -> i64
-    ensures { (numbers : Numbers) (n : ℤ) → add numbers (number.Whole n) (number.Whole result)
+    ensures { (numbers : Profile) (n : ℤ) → add numbers (number.Whole n) (number.Whole result)
         ≡ machine.stepped numbers how (number.Whole n) }
 {
     match how {

@@ -29,6 +29,7 @@ use crate::at_hand::texts::{add_item, add_others, join_operands};
 use crate::at_hand::values::{MOST_LEVELS, at_hand, number_at_hand, number_there};
 use crate::line::Line;
 use crate::made::stepped_at;
+use crate::shown::without_convfmt;
 use awk_numbers::number::Number;
 use awk_program::{Expr, Own, Step, Target, Variable};
 use awk_store::elements::{read_element, set_element};
@@ -134,7 +135,8 @@ pub(crate) fn number_of_key(store: &Store, keys: &[Expr]) -> Option<i64>
     let [one] = keys else {
         return None;
     };
-    number_there(store, one)
+    let key = without_convfmt(store, one)?;
+    number_there(store, key)
 }
 
 /// The number of the field that is the only subscript, where that number is at hand.
@@ -146,7 +148,8 @@ fn field_of_key(store: &Store, keys: &[Expr]) -> Option<u16>
     let [one] = keys else {
         return None;
     };
-    let Expr::Read(target) = one else {
+    let key = without_convfmt(store, one)?;
+    let Expr::Read(target) = key else {
         return None;
     };
     let Target::Field(_, number) = target else {

@@ -21,6 +21,7 @@ ghost use Rattle.std.specs.Prelude.{true, ◌++◌, ◌+◌, ◌∷◌, ◌≡�
 
 use crate::at_hand::tests::chosen;
 use crate::at_hand::values::{MOST_LEVELS, at_hand, value_at_hand};
+use crate::shown::without_convfmt;
 use awk_program::{Expr, Joined, Target, Variable};
 use awk_store::values::into_text;
 use awk_store::{Store, is_nf};
@@ -54,7 +55,10 @@ fn add_made(store: &Store, e: &Expr, room: usize, texts: &mut Vec<u8>) -> Result
         (λ added. added ≡ true → (text : List ℕ) × (texts.new.items ≡ texts.old.items ++ text)
         × ((g : Given) (t : Table) → Lends g (store.now, t) (view (names_in g) e.now) text)) }
 {
-    let Some(value) = value_at_hand(*texts.allocator(), store, e) else {
+    let Some(made) = without_convfmt(store, e) else {
+        return Ok(false);
+    };
+    let Some(value) = value_at_hand(*texts.allocator(), store, made) else {
         return Ok(false);
     };
     let mut buffer = Buffer::new();
@@ -203,7 +207,10 @@ fn grown(
     ensures err { IfErr result (λ h. h ≡ Halt.Memory) }
     ensures used { store.new.used ≡ store.old.used }
 {
-    if !reads_variable(first, to) {
+    let Some(read) = without_convfmt(store, first) else {
+        return Ok(false);
+    };
+    if !reads_variable(read, to) {
         return Ok(false);
     }
     let Some(room) = room_behind(store, to) else {
@@ -301,7 +308,8 @@ pub fn text_to_grow<'a>(store: &mut Store, to: Variable, x: &'a Expr) -> Option<
     let Expr::Concat(first, rest) = x else {
         return None;
     };
-    if !reads_variable(first.get(), to) {
+    let read = without_convfmt(store, first.get())?;
+    if !reads_variable(read, to) {
         return None;
     }
     let text = long_text(store, to)?;

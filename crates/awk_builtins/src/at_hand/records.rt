@@ -16,9 +16,18 @@ fn is_zero(e: &Expr) -> bool {
     matches!(e, Expr::Number(Number::Whole(0)))
 }
 
+/// What is evaluated for an operand of which a text is wanted; any other expression is itself.
+#[inline(always)]
+fn evaluated(e: &Expr) -> &Expr {
+    match e {
+        Expr::AsText(_, x) => x.get(),
+        _ => e,
+    }
+}
+
 /// Whether an expression is a field other than `$0`.
 fn is_field(e: &Expr) -> bool {
-    match e {
+    match evaluated(e) {
         Expr::Read(Target::Field(_, number)) => !is_zero(number.get()),
         _ => false,
     }
@@ -26,7 +35,7 @@ fn is_field(e: &Expr) -> bool {
 
 /// Whether an expression is `$0`.
 pub(crate) fn is_whole(e: &Expr) -> bool {
-    match e {
+    match evaluated(e) {
         Expr::Read(Target::Field(_, number)) => is_zero(number.get()),
         _ => false,
     }
@@ -91,7 +100,8 @@ fn reads_field(target: &Target<Expr>) -> bool {
 /// Whether an expression is a chain or a call that begins with a field, or operands of which one is a field.
 #[inline(never)]
 fn made_of_field(e: &Expr) -> bool {
-    match e {
+    match evaluated(e) {
+        Expr::Read(target) => reads_field(target),
         Expr::Chain(x, _) => is_field(x.get()),
         Expr::Builtin(_, _, args) => begins_with_field(args.as_slice()),
         Expr::Concat(first, rest) => joins_field(first.get(), rest.as_slice()),

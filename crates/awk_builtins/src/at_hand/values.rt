@@ -17,6 +17,7 @@ ghost use Rattle.std.specs.Prelude.{IfSome, Ok, Some, false, length, map, ◌≡
 
 use crate::functions::{cased, index_of, part_of, text_length};
 use crate::operators::operation;
+use crate::shown::without_convfmt;
 use awk_fields::row::LEAST_SHARED;
 use awk_numbers::number::{Number, Numbers};
 use awk_program::{Builtin, Expr, Target, Term, Variable};
@@ -347,7 +348,7 @@ fn called_at_hand<'a>(
     }
 }
 
-/// The value of such a function, or the number of elements of an array.
+/// The value of such a function, of an operand of which a text is wanted, or the number of elements of an array.
 #[cycle(hand)]
 #[inline(never)]
 fn made_at_hand<'a>(store: &'a Store, e: &'a Expr, level: u32) -> Option<Lent<'a>>
@@ -355,6 +356,10 @@ fn made_at_hand<'a>(store: &'a Store, e: &'a Expr, level: u32) -> Option<Lent<'a
 {
     match e {
         Expr::Builtin(_, which, args) => called_at_hand(store, *which, args.as_slice(), level),
+        Expr::AsText(_, _) => {
+            let x = without_convfmt(store, e)?;
+            at_hand(store, x, level)
+        }
         Expr::Count(_) => {
             let count = count_at_hand(store, e)?;
             Some(Lent::Num(count))

@@ -65,7 +65,7 @@ returns-in-Length-clause-task g c = λ m xs e.
 
 pub returns-in-Sprintf-clause-task : goal.returns-in-Sprintf-clause-task
 returns-in-Sprintf-clause-task g c = λ m xs e. rw c.in-Sprintf.is
-    (acted (c.sprintf.ensures m (c.args.store.now, c.args.streams.now) xs c.numbers-numbers.ensures e))
+    (acted (c.sprintf.ensures m c.args.streams.now xs e))
 
 pub returns-in-Substr-clause-task : goal.returns-in-Substr-clause-task
 returns-in-Substr-clause-task g c = λ m xs e. rw c.in-Substr.is

@@ -1,20 +1,26 @@
-use Rattle.std.proofs.Common.{ap, ◌∷◌}
+use Rattle.std.proofs.Common.{ap, ◌∙◌, ◌∷◌}
 use Rattle.std.specs.Prelude.{Some}
 use Rattle.awk_builtins.proofs.Granted.{given_or_lacks}
+use Rattle.awk_builtins.proofs.Convfmt.{formatted-so}
+use Rattle.awk_builtins.specs.Shown.{formatted_by}
 use Rattle.awk_machine.specs.Builtins as builtin
 use Rattle.awk_machine.specs.Advances.{held}
-use Rattle.awk_machine.specs.Pieces.{Doing}
+use Rattle.awk_machine.specs.Pieces.{Doing, Goes, granted}
 use Rattle.awk_machine.specs.Streams.{seen}
 use Rattle.awk_program.specs.Program as p
-use Rattle.awk_store.specs.Wholes.{base}
+use Rattle.awk_store.specs.Wholes.{Whole, base}
 use Rattle.awk_builtins.specs.Outputs.{to_stream}
 use Rattle.awk_builtins.proofs.Listed.{printed_some}
 use Rattle.awk_builtins.proofs.printing.formatted_for.Goals as goal
 
 pub returns : goal.returns
-returns c = λ g w x xs r by e. rw c.at.ensures (given_or_lacks g w _ c.args.place (to_stream r c.args.name.now)
-    (builtin.formatted_by w.0.numbers c.args.values.now) c.text_of_format.result
-    (rw by at c.text_of_format.ensures.ok) (rw by at c.text_of_format.ensures.err)
-    (λ k hid d a. ap (held g (seen (base g w hid) d)) (printed_some (λ s. builtin.formatted_by s.numbers) c.args.place
-    (x ∷ xs)
-    (Doing (p.printf c.args.place x xs (Some r))) r c.args.name.now c.args.values.now k (seen (base g w hid) d) e)))
+returns c = λ g t x xs r e.
+    let w : Whole = (c.args.store.now, t) in
+    rw c.at.ensures (given_or_lacks g w _ c.args.place (to_stream r c.args.name.now)
+    (formatted_by c.args.store.now c.args.values.now) c.text_of_format.result
+    c.text_of_format.ensures.ok c.text_of_format.ensures.err
+    (λ k hid d a. ap (held g (seen (base g w hid) d)) (printed_some builtin.formatted_by c.args.place (x ∷ xs)
+    (Doing (p.printf c.args.place x xs (Some r))) r c.args.name.now c.args.values.now k (seen (base g w hid) d) e)
+    ∙ ap (λ m. held g (seen (base g w hid) d) (granted c.args.place m
+    (λ y k s. Goes (to_stream r c.args.name.now y k) s) k (seen (base g w hid) d)))
+    (formatted-so g w hid d a c.args.values.now)))

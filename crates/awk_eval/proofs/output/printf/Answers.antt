@@ -63,10 +63,8 @@ returns-in_err-text g c =
           ∙ ap (λ vs. vs ++ c.in_ok-format.format ∷ []) c.new-values.ensures.items) c.fill.ensures.plays m is
           (Doing (p.printf c.args.place (view (names_in m) c.args.x.now) (map (view (names_in m)) c.args.xs.now) None))
           (waits_formatted m c.args.place (view (names_in m) c.args.x.now) (map (view (names_in m)) c.args.xs.now) None))
-          c.in_ok-fill.was) (acted (rw c.as_slice.ensures.value at (c.formatted_line.ensures m (
-            c.fill.new.run.store,
-            c.fill.new.run.streams,
-          ) (view (names_in m) c.args.x.now) (map (view (names_in m)) c.args.xs.now) c.numbers.ensures
+          c.in_ok-fill.was) (acted (rw c.as_slice.ensures.value at (c.formatted_line.ensures m c.fill.new.run.streams
+          (view (names_in m) c.args.x.now) (map (view (names_in m)) c.args.xs.now)
           (rw c.as_slice.ensures.value (count_formatted (view (names_in m)) (view (names_in m) c.args.x.now) c.args.xs.now
           _ _ _ (c.in_ok-append.ensures.ok ∙ ap (λ vs. vs ++ c.in_ok-format.format ∷ []) c.new-values.ensures.items)
           c.in_ok-fill.ensures.count))))) c.in_err-text.was;
@@ -84,10 +82,8 @@ returns-in_err-put g c =
           ∙ ap (λ vs. vs ++ c.in_ok-format.format ∷ []) c.new-values.ensures.items) c.fill.ensures.plays m is
           (Doing (p.printf c.args.place (view (names_in m) c.args.x.now) (map (view (names_in m)) c.args.xs.now) None))
           (waits_formatted m c.args.place (view (names_in m) c.args.x.now) (map (view (names_in m)) c.args.xs.now) None))
-          c.in_ok-fill.was) (acted (rw c.as_slice.ensures.value at (c.formatted_line.ensures m (
-            c.fill.new.run.store,
-            c.fill.new.run.streams,
-          ) (view (names_in m) c.args.x.now) (map (view (names_in m)) c.args.xs.now) c.numbers.ensures
+          c.in_ok-fill.was) (acted (rw c.as_slice.ensures.value at (c.formatted_line.ensures m c.fill.new.run.streams
+          (view (names_in m) c.args.x.now) (map (view (names_in m)) c.args.xs.now)
           (rw c.as_slice.ensures.value (count_formatted (view (names_in m)) (view (names_in m) c.args.x.now) c.args.xs.now
           _ _ _ (c.in_ok-append.ensures.ok ∙ ap (λ vs. vs ++ c.in_ok-format.format ∷ []) c.new-values.ensures.items)
           c.in_ok-fill.ensures.count))))) c.in_ok-text.was)
@@ -106,10 +102,8 @@ returns-in_default g c =
           ∙ ap (λ vs. vs ++ c.in_ok-format.format ∷ []) c.new-values.ensures.items) c.fill.ensures.plays m is
           (Doing (p.printf c.args.place (view (names_in m) c.args.x.now) (map (view (names_in m)) c.args.xs.now) None))
           (waits_formatted m c.args.place (view (names_in m) c.args.x.now) (map (view (names_in m)) c.args.xs.now) None))
-          c.in_ok-fill.was) (acted (rw c.as_slice.ensures.value at (c.formatted_line.ensures m (
-            c.fill.new.run.store,
-            c.fill.new.run.streams,
-          ) (view (names_in m) c.args.x.now) (map (view (names_in m)) c.args.xs.now) c.numbers.ensures
+          c.in_ok-fill.was) (acted (rw c.as_slice.ensures.value at (c.formatted_line.ensures m c.fill.new.run.streams
+          (view (names_in m) c.args.x.now) (map (view (names_in m)) c.args.xs.now)
           (rw c.as_slice.ensures.value (count_formatted (view (names_in m)) (view (names_in m) c.args.x.now) c.args.xs.now
           _ _ _ (c.in_ok-append.ensures.ok ∙ ap (λ vs. vs ++ c.in_ok-format.format ∷ []) c.new-values.ensures.items)
           c.in_ok-fill.ensures.count))))) c.in_ok-text.was)
@@ -158,11 +152,9 @@ returns-in_err-text-2 g c =
           (count_formatted (view (names_in m)) (view (names_in m) c.args.x.now) c.args.xs.now _ _ _
           (c.in_ok-append.ensures.ok ∙ ap (λ vs. vs ++ c.in_ok-format.format ∷ []) c.new-values.ensures.items)
           c.in_ok-fill.ensures.count) k _)) (c.value-2.ensures.plays m is) c.in_ok-target.was)
-          (acted (rw c.as_slice-2.ensures.value at (c.formatted_for.ensures m (
-            c.value-2.new.run.store,
-            c.value-2.new.run.streams,
-          ) (view (names_in m) c.args.x.now) (map (view (names_in m)) c.args.xs.now)
-          (view_redirection (names_in m) c.in-Some.to) c.numbers-2.ensures
+          (acted (rw c.as_slice-2.ensures.value at (c.formatted_for.ensures m c.value-2.new.run.streams
+          (view (names_in m) c.args.x.now) (map (view (names_in m)) c.args.xs.now)
+          (view_redirection (names_in m) c.in-Some.to)
           (rw c.as_slice-2.ensures.value (count_formatted (view (names_in m)) (view (names_in m) c.args.x.now)
           c.args.xs.now _ _ _ (c.in_ok-append.ensures.ok ∙ ap (λ vs. vs ++ c.in_ok-format.format ∷ [])
           c.new-values.ensures.items) c.in_ok-fill.ensures.count))))) c.in_err-text-2.was;
@@ -193,11 +185,9 @@ returns-in_err-put_to g c =
           (count_formatted (view (names_in m)) (view (names_in m) c.args.x.now) c.args.xs.now _ _ _
           (c.in_ok-append.ensures.ok ∙ ap (λ vs. vs ++ c.in_ok-format.format ∷ []) c.new-values.ensures.items)
           c.in_ok-fill.ensures.count) k _)) (c.value-2.ensures.plays m is) c.in_ok-target.was)
-          (acted (rw c.as_slice-2.ensures.value at (c.formatted_for.ensures m (
-            c.value-2.new.run.store,
-            c.value-2.new.run.streams,
-          ) (view (names_in m) c.args.x.now) (map (view (names_in m)) c.args.xs.now)
-          (view_redirection (names_in m) c.in-Some.to) c.numbers-2.ensures
+          (acted (rw c.as_slice-2.ensures.value at (c.formatted_for.ensures m c.value-2.new.run.streams
+          (view (names_in m) c.args.x.now) (map (view (names_in m)) c.args.xs.now)
+          (view_redirection (names_in m) c.in-Some.to)
           (rw c.as_slice-2.ensures.value (count_formatted (view (names_in m)) (view (names_in m) c.args.x.now)
           c.args.xs.now _ _ _ (c.in_ok-append.ensures.ok ∙ ap (λ vs. vs ++ c.in_ok-format.format ∷ [])
           c.new-values.ensures.items) c.in_ok-fill.ensures.count))))) c.in_ok-text-2.was)
@@ -228,11 +218,9 @@ returns g c =
           (count_formatted (view (names_in m)) (view (names_in m) c.args.x.now) c.args.xs.now _ _ _
           (c.in_ok-append.ensures.ok ∙ ap (λ vs. vs ++ c.in_ok-format.format ∷ []) c.new-values.ensures.items)
           c.in_ok-fill.ensures.count) k _)) (c.value-2.ensures.plays m is) c.in_ok-target.was)
-          (acted (rw c.as_slice-2.ensures.value at (c.formatted_for.ensures m (
-            c.value-2.new.run.store,
-            c.value-2.new.run.streams,
-          ) (view (names_in m) c.args.x.now) (map (view (names_in m)) c.args.xs.now)
-          (view_redirection (names_in m) c.in-Some.to) c.numbers-2.ensures
+          (acted (rw c.as_slice-2.ensures.value at (c.formatted_for.ensures m c.value-2.new.run.streams
+          (view (names_in m) c.args.x.now) (map (view (names_in m)) c.args.xs.now)
+          (view_redirection (names_in m) c.in-Some.to)
           (rw c.as_slice-2.ensures.value (count_formatted (view (names_in m)) (view (names_in m) c.args.x.now)
           c.args.xs.now _ _ _ (c.in_ok-append.ensures.ok ∙ ap (λ vs. vs ++ c.in_ok-format.format ∷ [])
           c.new-values.ensures.items) c.in_ok-fill.ensures.count))))) c.in_ok-text-2.was)

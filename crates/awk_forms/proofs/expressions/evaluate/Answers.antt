@@ -4,7 +4,7 @@ use Rattle.awk_streams.proofs.Chain.{at_once, done, part, stop}
 use Rattle.awk_program.proofs.Views.{view-And, view-Assign, view-Builtin, view-Change, view-Compare, view-Concat}
 use Rattle.awk_program.proofs.Views.{view-Count, view-Getline, view-Group, view-In, view-Locate, view-Match, view-Not}
 use Rattle.awk_program.proofs.Views.{view-Number, view-Or, view-Pattern, view-Read, view-Signed, view-Split, view-Step}
-use Rattle.awk_program.proofs.Views.{view-Substitute, view-Text}
+use Rattle.awk_program.proofs.Views.{view-AsText, view-Substitute, view-Text}
 use Rattle.awk_store.proofs.Acting.{acted}
 use Rattle.std.proofs.Common.{refl}
 use Rattle.std.proofs.lemmas.Result.{err_from_is_err_and}
@@ -63,6 +63,14 @@ returns-in-Signed g c =
       plays = λ m is. rw (c.in-Signed.is, view-Signed)
           (rw c.get-in-Signed.ensures at (c.unary-in-Signed.ensures.plays m is));
       owns = c.unary-in-Signed.ensures.owns;
+    }
+
+pub returns-in-AsText : goal.returns-in-AsText
+returns-in-AsText g c =
+    record {
+      plays = λ m is. rw (c.in-AsText.is, view-AsText)
+          (rw c.get-in-AsText.ensures at (c.unary-in-AsText.ensures.plays m is));
+      owns = c.unary-in-AsText.ensures.owns;
     }
 
 pub returns-in-Builtin : goal.returns-in-Builtin

@@ -19,8 +19,8 @@ returns c =
     λ val at fits g t place of_. rw (just_one c.args.keys.now c.one-item.result c.in-len1.len_at_least
     c.in-len1.len_below c.one-item.is)
     (element_spot g (c.args.store.now, t) place of_ (view (names_in g) c.one-item.result) val (text_of val)
-    (rw (c.in-Read.is, view-Read, c.in-Field.is)
+    (c.in_ok-key.ensures val (λ g t. rw (c.in-Read.is, view-Read, c.in-Field.is)
     (rw c.get.ensures at (field_there g (c.args.store.now, t) c.in-Field.field-0
     (view (names_in g) c.get.result.now) h.val c.in-Ok.number val (h.there g t) (h.is ∙ ap (λ z. Ok
-    (number.Whole z)) is.0) is.1 at)))
+    (number.Whole z)) is.0) is.1 at))) g t)
     (limited_ok (text_of val) fits))

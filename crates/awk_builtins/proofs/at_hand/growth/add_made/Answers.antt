@@ -6,9 +6,9 @@ returns-clause-text c = λ yes. (
   c.text_in.result.now,
   c.in_ok-added.ensures.text yes,
   λ g t. record {
-    val = c.in-Some.value;
+    val = c.in-Some-value_at_hand.value;
     is =
         sym c.text_in.ensures;
-    passes = c.in-Some.ensures g t;
+    passes = c.in-Some.ensures c.in-Some-value_at_hand.value c.in-Some-value_at_hand.ensures g t;
   },
 )

@@ -248,6 +248,11 @@ made_at_hand-returns-in-Builtin t c =
     (λ x h g u. rw (c.in-Builtin.is, view-Builtin) (rw c.as_slice.ensures at (h c.in-Builtin.field-0 g u)))
     c.called_at_hand.ensures
 
+pub made_at_hand-returns-in_ok-x-in-AsText : goal.made_at_hand-returns-in_ok-x-in-AsText
+made_at_hand-returns-in_ok-x-in-AsText t c =
+    some_for {P = λ x. IsThere (λ names. view names c.in_ok-x-in-AsText.x.now) c.args.store.now (lent_value x)}
+    c.at_hand.result (λ x h. c.in_ok-x-in-AsText.ensures (lent_value x) h) c.at_hand.ensures
+
 pub made_at_hand-returns-in_ok-count-in-Count : goal.made_at_hand-returns-in_ok-count-in-Count
 made_at_hand-returns-in_ok-count-in-Count t c = λ g u. rw (to_z-of_z w64 c.in_ok-count-in-Count.count (search rules))
     (c.in_ok-count-in-Count.ensures g u)
