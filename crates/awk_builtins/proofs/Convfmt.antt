@@ -5,6 +5,7 @@ use Rattle.awk_text.specs.Values.{text_of}
 use Rattle.awk_text.specs.declared.place.Place.{Place}
 use Rattle.awk_text.specs.declared.value.Value.{Value}
 use Rattle.awk_text.specs.declared.value.Value.TheVariants as v
+use Rattle.awk_format.specs.Formatted.{formatted}
 use Rattle.awk_format.specs.NumberTexts.{formatted_with, is_usual, value_by}
 use Rattle.awk_program.specs.Program as p
 use Rattle.awk_program.specs.Program.{Expression}
@@ -41,6 +42,10 @@ usual_stays kept (v.Num n) e = refl
 usual_stays kept (v.Real x) e = rw e refl
 usual_stays kept (v.Text x) e = refl
 usual_stays kept (v.Input x) e = refl
+
+pub usual_formatted : (kept : Kept) (vs : List Value) → is_usual kept.numbers (own_text kept own.Convfmt) ≡ true
+    → formatted kept.numbers (text_of (builtin.first vs)) (drop 1 vs) ≡ spec.formatted_by kept vs
+usual_formatted kept vs e = rw e refl
 
 module _ (g : Given) (w : Whole) where
   pub as_text_there : (place : Place) (x : Expression) (val made : Value) → Passes g (value x) w (give val) w

@@ -4,7 +4,10 @@ ghost use Rattle.awk_builtins.specs.Printed as line_spec;
 ghost use Rattle.awk_builtins.specs.Printed.{by_ofmt};
 ghost use Rattle.awk_builtins.specs.Shown.{formatted_by};
 ghost use Rattle.awk_fields.specs.Rows.{joined};
+ghost use Rattle.awk_format.specs.Formatted.{formatted};
 ghost use Rattle.awk_format.specs.NumberTexts.{all_shown, is_usual};
+ghost use Rattle.awk_machine.specs.Builtins.{first};
+ghost use Rattle.awk_text.specs.Values.{text_of};
 ghost use Rattle.awk_machine.specs.Forms.{listed};
 ghost use Rattle.awk_machine.specs.Operators.{limited};
 ghost use Rattle.awk_machine.specs.Pieces.{At, Doing, Value_of, give};
@@ -18,11 +21,15 @@ ghost use Rattle.awk_store.specs.Acts.{Acts};
 ghost use Rattle.awk_store.specs.Kept.{own_text};
 ghost use Rattle.awk_store.specs.Wholes.{Whole};
 ghost use Rattle.awk_streams.specs.Tables.{Table};
-ghost use Rattle.std.specs.Prelude.{Err, IfErr, IfOk, List, None, Ok, Some, length, reverse, ◌++◌, ◌∷◌, ◌≡◌, ◌⊎◌};
+ghost use Rattle.std.specs.Prelude.{Err, IfErr, IfOk, List, None, Ok, Some, drop, length, reverse, ◌++◌, ◌∷◌, ◌≡◌};
+ghost use Rattle.std.specs.Prelude.{◌⊎◌};
 
 use crate::line::Line;
 use crate::made::text_at;
+use crate::shown::is_usual_by;
+use awk_format::format;
 use awk_format::number_texts::{all_shown, format_with, is_usual};
+use awk_numbers::number::Numbers;
 use awk_program::{Own, Redirection};
 use awk_store::Store;
 use awk_streams::halt::{Halt, at};
@@ -34,11 +41,23 @@ use awk_text::texts::MOST_BYTES;
 use awk_text::value::{Value, text_in};
 use std::alloc::Global;
 
-/// The text that sprintf and printf make, by the store's profile: the first value is the format, and an absent one is
-/// empty. Numbers with a fraction that it shows as texts go by CONVFMT.
+/// The text that a format, the first of these values, makes of the others; an absent one is empty.
 ///
-/// Fails as `awk_format::number_texts::format_with` does.
-fn formatted_by(alloc: Global, store: &Store, values: &[Value]) -> Result<Vec<u8>, Fault>
+/// Fails as `awk_format::format` does.
+fn formatted_usually(alloc: Global, numbers: Numbers, values: &[Value]) -> Result<Vec<u8>, Fault>
+    ensures ok { IfOk result (λ text. formatted numbers (text_of (first values.now)) (drop 1 values.now) ≡ Ok text.items) }
+    ensures err { IfErr result
+        (λ e. (e ≡ Fault.Memory) ⊎ (formatted numbers (text_of (first values.now)) (drop 1 values.now) ≡ Err e)) }
+{
+    let mut buffer = Buffer::new();
+    match values {
+        [] => format(alloc, numbers, &[], &[]),
+        [first, others @ ..] => format(alloc, numbers, text_in(first, &mut buffer), others),
+    }
+}
+
+/// The same, where numbers with a fraction that the format shows as texts go by CONVFMT.
+fn formatted_by_convfmt(alloc: Global, store: &Store, values: &[Value]) -> Result<Vec<u8>, Fault>
     ensures ok { IfOk result (λ text. formatted_by store.now values.now ≡ Ok text.items) }
     ensures err { IfErr result (λ e. (e ≡ Fault.Memory) ⊎ (formatted_by store.now values.now ≡ Err e)) }
 {
@@ -51,6 +70,20 @@ fn formatted_by(alloc: Global, store: &Store, values: &[Value]) -> Result<Vec<u8
             format_with(alloc, numbers, by, text_in(format, &mut second), others)
         }
     }
+}
+
+/// The text that sprintf and printf make, by the store's profile: the first value is the format, and an absent one is
+/// empty. Numbers with a fraction that it shows as texts go by CONVFMT.
+///
+/// Fails as `awk_format::number_texts::format_with` does.
+fn formatted_by(alloc: Global, store: &Store, values: &[Value]) -> Result<Vec<u8>, Fault>
+    ensures ok { IfOk result (λ text. formatted_by store.now values.now ≡ Ok text.items) }
+    ensures err { IfErr result (λ e. (e ≡ Fault.Memory) ⊎ (formatted_by store.now values.now ≡ Err e)) }
+{
+    if is_usual_by(store, Own::Convfmt) {
+        return formatted_usually(alloc, store.numbers(), values);
+    }
+    formatted_by_convfmt(alloc, store, values)
 }
 
 /// The text that print makes of its items: their texts with OFS between, and ORS. It is made in the line, and taken out
@@ -86,7 +119,7 @@ fn text_of_items(
 }
 
 /// Whether OFMT makes the texts of numbers that they have anyway.
-pub(crate) fn is_ofmt_usual(store: &Store) -> bool
+fn is_ofmt_usual(store: &Store) -> bool
     ensures { result ≡ is_usual store.now.numbers (own_text store.now own.Ofmt) }
 {
     let mut buffer = Buffer::new();

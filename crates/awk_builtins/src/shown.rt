@@ -2,13 +2,14 @@
 ghost use Rattle.awk_builtins.specs.AtHand.{IsThere};
 ghost use Rattle.awk_builtins.specs.Shown.{by_convfmt};
 ghost use Rattle.awk_format.specs.NumberTexts.{is_usual};
+ghost use Rattle.awk_numbers.specs.declared.number.Numbers.TheVariants as profile;
 ghost use Rattle.awk_program.specs.View.{view};
-ghost use Rattle.awk_program.specs.declared.variables.Own.TheVariants as own;
 ghost use Rattle.awk_store.specs.Kept.{own_text};
 ghost use Rattle.awk_text.specs.declared.value.Value.{Value as Val};
-ghost use Rattle.std.specs.Prelude.{Err, IfErr, IfOk, IfSome, Ok, ◌≡◌, ◌⊎◌};
+ghost use Rattle.std.specs.Prelude.{Err, IfErr, IfOk, IfSome, Ok, true, ◌≡◌, ◌⊎◌};
 
 use awk_format::number_texts::{is_usual, value_by};
+use awk_numbers::number::Numbers;
 use awk_program::{Expr, Own};
 use awk_store::Store;
 use awk_text::buffer::Buffer;
@@ -30,13 +31,26 @@ pub fn as_text(alloc: Global, store: &Store, value: Value) -> Result<Value, Faul
     value_by(alloc, store.numbers(), by, value)
 }
 
-/// Whether CONVFMT makes the texts of numbers that they have anyway.
-fn is_convfmt_usual(store: &Store) -> bool
-    ensures { result ≡ is_usual store.now.numbers (own_text store.now own.Convfmt) }
+/// `is_usual_by`, of doubles.
+fn is_usual_of_doubles(store: &Store, name: Own) -> bool
+    ensures { result ≡ true → is_usual profile.Double (own_text store.now name) ≡ true }
 {
-    let mut buffer = Buffer::new();
-    let by = store.own_text(Own::Convfmt, &mut buffer);
-    is_usual(store.numbers(), by)
+    match store.own_bytes(name) {
+        Some(by) => is_usual(Numbers::Double, by),
+        None => false,
+    }
+}
+
+/// Whether this one of awk's own variables, CONVFMT or OFMT, holds the format that numbers go by anyway; so few
+/// instructions ask that whole numbers alone need no more.
+#[inline(always)]
+pub(crate) fn is_usual_by(store: &Store, name: Own) -> bool
+    ensures { result ≡ true → is_usual store.now.numbers (own_text store.now name) ≡ true }
+{
+    match store.numbers() {
+        Numbers::Whole => true,
+        Numbers::Double => is_usual_of_doubles(store, name),
+    }
 }
 
 /// What is evaluated for an operand of which a text is wanted, where CONVFMT changes no text: its value is that of the
@@ -50,7 +64,7 @@ pub(crate) fn without_convfmt<'a>(store: &Store, e: &'a Expr) -> Option<&'a Expr
     let Expr::AsText(_, x) = e else {
         return Some(e);
     };
-    if !is_convfmt_usual(store) {
+    if !is_usual_by(store, Own::Convfmt) {
         return None;
     }
     Some(x.get())

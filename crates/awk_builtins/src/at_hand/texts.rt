@@ -25,7 +25,8 @@ use crate::at_hand::records::{is_whole, split_where, wants_split};
 use crate::at_hand::tests::chosen;
 use crate::at_hand::values::{MOST_LEVELS, at_hand};
 use crate::line::Line;
-use crate::printing::{ended, is_ofmt_usual};
+use crate::printing::ended;
+use crate::shown::is_usual_by;
 use awk_program::{Expr, Joined, Own, Redirection};
 use awk_store::Store;
 use awk_streams::halt::Halt;
@@ -163,7 +164,7 @@ fn text_at_hand(line: &mut Line, store: &Store, xs: &[Expr]) -> Option<Octets>
     if xs.is_empty() {
         return record_at_hand(line, store);
     }
-    if !is_ofmt_usual(store) {
+    if !is_usual_by(store, Own::Ofmt) {
         return None;
     }
     if !join_items(line, store, xs) {

@@ -9,4 +9,4 @@ pub returns : goal.returns
 returns c = λ val there g t.
     rw (c.in-AsText.is, view-AsText) (rw c.get.ensures at (as_text_there g (c.args.store.now, t) c.in-AsText.field-0
     (view (names_in g) c.get.result.now) val val (there g t)
-    (usual_stays c.args.store.now val (sym c.is_convfmt_usual.ensures ∙ c.if-not-is_convfmt_usual.false))))
+    (usual_stays c.args.store.now val (c.is_usual_by.ensures c.if-not-is_usual_by.false))))
