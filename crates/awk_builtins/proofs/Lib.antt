@@ -16,6 +16,7 @@ pub mod Rests
 pub mod SearchSteps
 pub mod Convfmt
 pub mod SplitSteps
+pub mod Stored
 pub mod Storing
 pub mod Subscripts
 pub mod Truths

@@ -22,5 +22,6 @@ pub mod patterns;
 pub mod printing;
 pub mod replacements;
 pub mod searches;
+pub mod settings;
 mod shown;
 pub mod splits;

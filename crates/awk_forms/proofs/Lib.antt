@@ -1,4 +1,3 @@
 pub mod Leading
-mod Stored
 pub mod Opens
 pub mod Turns

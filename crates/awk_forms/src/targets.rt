@@ -22,10 +22,11 @@ use awk_builtins::at_hand::assignments::stepped_variable;
 use awk_builtins::at_hand::elements::{element_at_hand, read_at_key, step_at_key};
 use awk_builtins::at_hand::growth::assigned;
 use awk_builtins::keys::field_number;
-use awk_builtins::made::{computed_at, stepped_at};
+use awk_builtins::made::computed_at;
+use awk_builtins::settings;
 use awk_numbers::number::Number;
 use awk_program::{Expr, Operator, Step, StepValue, Target, Variable};
-use awk_store::targets::{read, set, stored};
+use awk_store::targets::{read, set};
 use awk_store::variables::{read_variable, set_variable};
 use awk_store::{Spot, Store};
 use awk_streams::halt::Halt;
@@ -245,11 +246,8 @@ pub fn alter<W: World, E: Evaluates<W>>(
     if let Target::Variable(variable) = target {
         return alter_variable(cx, place, how, *variable, x, on, run, world);
     }
-    let to = target_of(cx, target, on, run, world)?;
-    let operand = on.value(cx, x, run, world)?;
-    let old = read(&mut run.store, &to)?;
-    let number = computed_at(run.store.numbers(), place, how, &old, &operand)?;
-    set(cx.alloc, &mut run.store, to, place, Value::of(number))
+    change(cx, place, how, target, x, on, run, world)?;
+    Ok(())
 }
 
 /// Steps what is read and set, whose subscripts or number are evaluated first.
@@ -270,10 +268,7 @@ fn general_step<W: World, E: Evaluates<W>>(
         (whole_of run.old) world.old result (whole_of run.new) world.new }
 {
     let to = target_of(cx, target, on, run, world)?;
-    let old = read(&mut run.store, &to)?;
-    let (before, behind) = stepped_at(run.store.numbers(), place, how, &old)?;
-    set(cx.alloc, &mut run.store, to, place, Value::of(behind))?;
-    Ok((before, behind))
+    settings::step(cx.alloc, &mut run.store, place, how, to)
 }
 
 /// The same of an element, by its key where that is at hand. It stands out of line, as what reads one does.
@@ -358,12 +353,8 @@ pub fn assign<W: World, E: Evaluates<W>>(
         (whole_of run.old) world.old result (whole_of run.new) world.new }
 {
     let to = target_of(cx, target, on, run, world)?;
-    let mut new = on.value(cx, x, run, world)?;
-    let Ok(kept) = stored(cx.alloc, run.store.numbers(), &to, &mut new) else {
-        return Err(Halt::Memory);
-    };
-    set(cx.alloc, &mut run.store, to, place, new)?;
-    Ok(kept)
+    let new = on.value(cx, x, run, world)?;
+    settings::assign(cx.alloc, &mut run.store, place, to, new)
 }
 
 /// `target += value`, and with the other operators.
@@ -385,14 +376,7 @@ pub fn change<W: World, E: Evaluates<W>>(
 {
     let to = target_of(cx, target, on, run, world)?;
     let operand = on.value(cx, x, run, world)?;
-    let old = read(&mut run.store, &to)?;
-    let numbers = run.store.numbers();
-    let number = computed_at(numbers, place, how, &old, &operand)?;
-    let Ok(kept) = stored(cx.alloc, numbers, &to, &mut Value::of(number)) else {
-        return Err(Halt::Memory);
-    };
-    set(cx.alloc, &mut run.store, to, place, Value::of(number))?;
-    Ok(kept)
+    settings::change(cx.alloc, &mut run.store, place, how, to, &operand)
 }
 
 /// `target ++` and `target --`, before and behind.

@@ -308,12 +308,7 @@ pub fn step_at_key(
 
 /// `delete array [ list ]`, where the key is at hand, and so it is not copied. Answers whether it did: the element is
 /// removed if it is there.
-pub fn removed_at_hand(
-    store: &mut Store,
-    line: &mut Line,
-    array: Variable,
-    keys: &[Expr],
-) -> bool
+pub fn removed_at_hand(store: &mut Store, line: &mut Line, array: Variable, keys: &[Expr]) -> bool
     ensures done { result ≡ true → (g : Given) (t : Table) (place : Place) →
         Passes g (At (Doing (p.delete place (variable_of (names_in g) array) (map (view (names_in g)) keys.now))) [])
         (store.old, t) (λ k. k) (store.new, t) }

@@ -37,12 +37,13 @@ returns-then-is_removed g c =
 pub returns : goal.returns
 returns g c =
     record {
-      plays = λ m is. rw (c.removed_at_hand-is_removed.ensures.not_done c.if-is_removed.false) at
-          (passes (part _ (at_once _ _ _)
+      plays = λ m is.
+          passes (part _ (at_once _ _ _)
           (acted (c.split_for_items.ensures m c.args.run.now.streams
           (At (Doing (p.delete c.args.place (variable_of (names_in m) c.args.array)
           (map (view (names_in m)) c.args.keys.now))) [])))
           c.in_ok-split_for_items.was)
-          (rw (c.removed_at_hand-is_removed.ensures.not_done c.if-is_removed.false) at (c.general_delete.ensures.plays m is)));
+          (rw (c.removed_at_hand-is_removed.ensures.not_done c.if-is_removed.false) at
+          (c.general_delete.ensures.plays m is));
       owns = c.general_delete.ensures.owns;
     }

@@ -6,7 +6,7 @@ use Rattle.awk_machine.specs.Targets.{stored}
 use Rattle.awk_program.specs.Program.{joins_of}
 use Rattle.awk_program.specs.View.{view_joined}
 use Rattle.awk_store.proofs.Acting.{acted, done as there}
-use Rattle.awk_forms.proofs.Stored.{stored_by}
+use Rattle.awk_builtins.proofs.Stored.{stored_by}
 use Rattle.awk_store.specs.Spots as spots
 use Rattle.awk_store.specs.Spots.{meant}
 use Rattle.awk_store.specs.Wholes.{names_in}

@@ -5,7 +5,7 @@ use Rattle.awk_machine.specs.Targets.{stored}
 use Rattle.awk_program.specs.Program as p
 use Rattle.awk_program.specs.View.{variable_of, view}
 use Rattle.awk_store.proofs.Acting.{acted}
-use Rattle.awk_forms.proofs.Stored.{stored_by}
+use Rattle.awk_builtins.proofs.Stored.{stored_by}
 use Rattle.awk_store.specs.Spots as spots
 use Rattle.awk_store.specs.Spots.{meant, value_of}
 use Rattle.awk_store.specs.Wholes.{names_in}

@@ -1,17 +1,11 @@
 use Rattle.awk_forms.proofs.Leading.{quietly}
-use Rattle.awk_streams.proofs.Chain.{at_once, done, lacking, part, stop, turned}
-use Rattle.awk_machine.specs.Pieces.{At, Do, Get, Give, Set, Value_of}
-use Rattle.awk_machine.specs.Targets.{stored}
+use Rattle.awk_streams.proofs.Chain.{at_once, part, passes, stop}
 use Rattle.awk_program.specs.View.{view, view_target}
 use Rattle.awk_store.proofs.Acting.{acted}
-use Rattle.awk_forms.proofs.Stored.{stored_by}
-use Rattle.awk_store.specs.Spots.{meant, value_of}
 use Rattle.awk_store.specs.Wholes.{names_in}
-use Rattle.std.proofs.Common.{[], ap, refl, sym, ◌∙◌, ◌∷◌}
+use Rattle.std.proofs.Common.{refl}
 use Rattle.std.proofs.lemmas.Result.{err_from_is_err_and}
 use Rattle.awk_forms.proofs.targets.change.Goals as goal
-use Rattle.awk_program.specs.Program as p
-use Rattle.awk_text.specs.Values.{of_number}
 
 pub returns-in_err-to : goal.returns-in_err-to
 returns-in_err-to g c =
@@ -33,111 +27,14 @@ returns-in_err-operand g c =
       owns = c.value.ensures.owns;
     })
 
-pub returns-in_err-old : goal.returns-in_err-old
-returns-in_err-old g c =
-    let e = err_from_is_err_and c.from_residual-in_err-old.result c.from_residual-in_err-old.ensures.1 in
-    rw (e.1, e.2) (record {
-      plays = λ m is.
-          (stop _ (λ k. refl) (quietly {then_ = λ k. Do (Get (meant (names_in m) c.in_ok-to.to)) ∷ At
-          (Value_of (p.change c.args.place c.args.how (view_target (names_in m) c.args.target.now)
-          (view (names_in m) c.args.x.now))) (c.in_ok-operand.operand ∷ value_of c.in_ok-to.to ∷ []) ∷ k}
-          (part _ (quietly (part _ (quietly (at_once _ _ _) (λ k hid d a. refl))
-          (c.target_of.ensures.plays.plays m is) c.in_ok-to.was) (λ k hid d a. refl)) (c.value.ensures.plays m is)
-          c.in_ok-operand.was) (λ k hid d a. rw (c.in_ok-to.ensures.spot (names_in m)) refl))
-          (acted (c.read.ensures m c.value.new.run.streams)) c.in_err-old.was);
-      owns = c.value.ensures.owns;
-    })
-
-pub returns-in_err-number : goal.returns-in_err-number
-returns-in_err-number g c =
-    let e = err_from_is_err_and c.from_residual-in_err-number.result c.from_residual-in_err-number.ensures.1 in
-    rw (e.1, e.2) (record {
-      plays = λ m is.
-          (stop _ (λ k. refl) (part _ (quietly {then_ = λ k. Do (Get (meant (names_in m) c.in_ok-to.to)) ∷ At
-          (Value_of (p.change c.args.place c.args.how (view_target (names_in m) c.args.target.now)
-          (view (names_in m) c.args.x.now))) (c.in_ok-operand.operand ∷ value_of c.in_ok-to.to ∷ []) ∷ k}
-          (part _ (quietly (part _ (quietly (at_once _ _ _) (λ k hid d a. refl))
-          (c.target_of.ensures.plays.plays m is) c.in_ok-to.was) (λ k hid d a. refl)) (c.value.ensures.plays m is)
-          c.in_ok-operand.was) (λ k hid d a. rw (c.in_ok-to.ensures.spot (names_in m)) refl))
-          (acted (c.read.ensures m c.value.new.run.streams)) c.in_ok-old.was)
-          (acted (c.computed_at.ensures m (c.read.new.store, c.value.new.run.streams)
-          (view_target (names_in m) c.args.target.now) (view (names_in m) c.args.x.now)
-          (value_of c.in_ok-to.to) c.numbers-numbers.ensures))
-          c.in_err-number.was);
-      owns = c.value.ensures.owns;
-    })
-
-pub returns-in_default : goal.returns-in_default
-returns-in_default g c =
-    record {
-      plays = λ m is. lacking
-          (part _ (part _ (quietly {then_ = λ k. Do (Get (meant (names_in m) c.in_ok-to.to)) ∷ At
-          (Value_of (p.change c.args.place c.args.how (view_target (names_in m) c.args.target.now)
-          (view (names_in m) c.args.x.now))) (c.in_ok-operand.operand ∷ value_of c.in_ok-to.to ∷ []) ∷ k}
-          (part _ (quietly (part _ (quietly (at_once _ _ _) (λ k hid d a. refl)) (c.target_of.ensures.plays.plays m is)
-          c.in_ok-to.was) (λ k hid d a. refl)) (c.value.ensures.plays m is) c.in_ok-operand.was)
-          (λ k hid d a. rw (c.in_ok-to.ensures.spot (names_in m)) refl))
-          (acted (c.read.ensures m c.value.new.run.streams)) c.in_ok-old.was)
-          (acted (c.computed_at.ensures m (c.read.new.store, c.value.new.run.streams)
-          (view_target (names_in m) c.args.target.now) (view (names_in m) c.args.x.now)
-          (value_of c.in_ok-to.to) c.numbers-numbers.ensures))
-          c.in_ok-number.was);
-      owns = c.value.ensures.owns;
-    }
-
-pub returns-in_err-set : goal.returns-in_err-set
-returns-in_err-set g c =
-    let e = err_from_is_err_and c.from_residual-in_err-set.result c.from_residual-in_err-set.ensures.1 in
-    rw (e.1, e.2) (record {
-      plays = λ m is.
-          (stop _ (λ k. refl) (turned {then_ =
-          λ k. Do (Set (meant (names_in m) c.in_ok-to.to) c.args.place (of_number c.in_ok-number.number)) ∷ Do
-          (Give (stored c.numbers-numbers.result (meant (names_in m) c.in_ok-to.to)
-          (of_number c.in_ok-number.number))) ∷ k}
-          (part _ (part _ (quietly {then_ = λ k. Do (Get (meant (names_in m) c.in_ok-to.to)) ∷ At
-          (Value_of (p.change c.args.place c.args.how (view_target (names_in m) c.args.target.now)
-          (view (names_in m) c.args.x.now))) (c.in_ok-operand.operand ∷ value_of c.in_ok-to.to ∷ []) ∷ k}
-          (part _ (quietly (part _ (quietly (at_once _ _ _) (λ k hid d a. refl))
-          (c.target_of.ensures.plays.plays m is) c.in_ok-to.was) (λ k hid d a. refl)) (c.value.ensures.plays m is)
-          c.in_ok-operand.was) (λ k hid d a. rw (c.in_ok-to.ensures.spot (names_in m)) refl))
-          (acted (c.read.ensures m c.value.new.run.streams)) c.in_ok-old.was)
-          (acted (c.computed_at.ensures m (c.read.new.store, c.value.new.run.streams)
-          (view_target (names_in m) c.args.target.now) (view (names_in m) c.args.x.now)
-          (value_of c.in_ok-to.to) c.numbers-numbers.ensures))
-          c.in_ok-number.was) (λ k. ap (λ t. Do (Set t c.args.place (of_number c.in_ok-number.number)) ∷ Do
-          (Give (stored c.numbers-numbers.result t (of_number c.in_ok-number.number))) ∷ k) (c.in_ok-to.ensures.spot
-          (names_in m))))
-          (acted (rw c.of-2.ensures at
-          (c.set.ensures m c.value.new.run.streams))) c.in_err-set.was);
-      owns = c.value.ensures.owns;
-    })
-
 pub returns : goal.returns
 returns g c =
     record {
       plays = λ m is.
-          done (quietly (part _
-          (turned {then_ = λ k. Do (Set (meant (names_in m) c.in_ok-to.to) c.args.place
-          (of_number c.in_ok-number.number)) ∷ Do
-          (Give (stored c.numbers-numbers.result (meant (names_in m) c.in_ok-to.to)
-          (of_number c.in_ok-number.number))) ∷ k}
-          (part _ (part _ (quietly {then_ = λ k. Do (Get (meant (names_in m) c.in_ok-to.to)) ∷ At
-          (Value_of (p.change c.args.place c.args.how (view_target (names_in m) c.args.target.now)
-          (view (names_in m) c.args.x.now))) (c.in_ok-operand.operand ∷ value_of c.in_ok-to.to ∷ []) ∷ k}
-          (part _ (quietly (part _ (quietly (at_once _ _ _) (λ k hid d a. refl))
+          passes (part _ (quietly (part _ (quietly (at_once _ _ _) (λ k hid d a. refl))
           (c.target_of.ensures.plays.plays m is) c.in_ok-to.was) (λ k hid d a. refl)) (c.value.ensures.plays m is)
-          c.in_ok-operand.was) (λ k hid d a. rw (c.in_ok-to.ensures.spot (names_in m)) refl))
-          (acted (c.read.ensures m c.value.new.run.streams)) c.in_ok-old.was)
-          (acted (c.computed_at.ensures m (c.read.new.store, c.value.new.run.streams)
-          (view_target (names_in m) c.args.target.now) (view (names_in m) c.args.x.now)
-          (value_of c.in_ok-to.to) c.numbers-numbers.ensures))
-          c.in_ok-number.was) (λ k. ap (λ t. Do (Set t c.args.place (of_number c.in_ok-number.number)) ∷ Do
-          (Give (stored c.numbers-numbers.result t (of_number c.in_ok-number.number))) ∷ k) (c.in_ok-to.ensures.spot
-          (names_in m))))
-          (acted (rw c.of-2.ensures at
-          (c.set.ensures m c.value.new.run.streams))) c.in_ok-set.was)
-          (λ k hid d a. rw (stored_by c.numbers-numbers.result m _ hid d a c.in_ok-to.to
-          (of_number c.in_ok-number.number)
-          ∙ sym (rw c.of.ensures at c.in-Ok.ensures.ok)) refl));
+          c.in_ok-operand.was)
+          (acted (c.change.ensures m c.value.new.run.streams (view_target (names_in m) c.args.target.now)
+          (view (names_in m) c.args.x.now) (c.in_ok-to.ensures.spot (names_in m))));
       owns = c.value.ensures.owns;
     }

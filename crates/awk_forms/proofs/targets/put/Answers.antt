@@ -3,7 +3,7 @@ use Rattle.awk_streams.proofs.Chain.{at_once, part, stop}
 use Rattle.awk_machine.specs.Pieces.{Do, Give, Set, give}
 use Rattle.awk_machine.specs.Targets.{stored}
 use Rattle.awk_store.proofs.Acting.{acted, done as there, lacking as lacks_there}
-use Rattle.awk_forms.proofs.Stored.{stored_by}
+use Rattle.awk_builtins.proofs.Stored.{stored_by}
 use Rattle.awk_store.specs.Spots as spots
 use Rattle.awk_store.specs.Spots.{meant}
 use Rattle.awk_store.specs.Wholes.{names_in}
