@@ -13,15 +13,6 @@ use Rattle.awk_program.specs.declared.builtins.Builtin.TheVariants as f
 use Rattle.awk_program.specs.declared.operators.Comparison.{Comparison}
 use Rattle.awk_program.specs.Program as p
 use Rattle.awk_program.specs.Program.{Expression, Expressions, Reference}
-use Rattle.awk_lowering.specs.declared.texts.Form.{Form}
-use Rattle.awk_lowering.specs.declared.texts.Form.TheVariants as form
-
--- what the form of an expression tells of its value
-abbrev pub form_of : Expression → Form
-form_of (p.number n) = form.Constant n
-form_of (p.text x) = form.Text
-form_of (p.concat x xs) = form.Text
-form_of x = form.Other
 
 abbrev pub may_be_fraction : Expression → Bool
 may_be_fraction (p.number (Whole n)) = false

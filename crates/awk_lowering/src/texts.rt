@@ -4,6 +4,7 @@ ghost use Rattle.std.specs.Prelude.{◌≡◌, IfOk, if◌then◌else◌};
 ghost use Rattle.awk_lowering.specs.Forms as forms;
 ghost use Rattle.awk_lowering.specs.Made.{Is, IsTarget, names_in};
 ghost use Rattle.awk_lowering.specs.Texts as spec;
+ghost use Rattle.awk_lowering.specs.Told as told;
 ghost use Rattle.awk_numbers.specs.declared.number.Numbers.TheVariants as profile;
 ghost use Rattle.awk_program.specs.Program as p;
 ghost use Rattle.awk_program.specs.Program.{Expression, Reference};
@@ -42,7 +43,7 @@ fn is_real(number: Number) -> bool
 
 #[tactic(auto, using(awk_program::proofs::Views::views))]
 fn form_of(e: &Expr) -> Form
-    ensures { (t : Names) → result ≡ spec.form_of (view t e.now) }
+    ensures { (t : Names) → result ≡ told.form_of (view t e.now) }
 {
     match e {
         Expr::Number(number) => Form::Constant(*number),
