@@ -12,6 +12,7 @@ use Rattle.awk_program.specs.Program as p
 use Rattle.awk_program.specs.Program.{Expression, expressions_of, joins_of}
 use Rattle.awk_program.specs.declared.builtins.Builtin.{Builtin}
 use Rattle.awk_program.specs.declared.builtins.Builtin.TheVariants as b
+use Rattle.awk_program.specs.declared.variables.Own.TheVariants as own
 use Rattle.awk_program.specs.declared.variables.Variable.{Variable}
 use Rattle.awk_program.specs.View.{Names, view, view_joined}
 use Rattle.awk_program.specs.declared.expressions.Expr.{Expr}
@@ -19,10 +20,11 @@ use Rattle.awk_program.specs.declared.expressions.Joined.{Joined}
 use Rattle.awk_program.specs.declared.expressions.Target.{Target}
 use Rattle.awk_program.specs.declared.expressions.Target.TheVariants as target
 use Rattle.awk_machine.specs.Forms.{spot, value}
+use Rattle.awk_machine.specs.Operators.{limited}
 use Rattle.awk_machine.specs.Pieces.{give}
 use Rattle.awk_machine.specs.State.{Given}
 use Rattle.awk_store.specs.Changes.{Adds, with_array}
-use Rattle.awk_store.specs.Kept.{Kept, array, reference}
+use Rattle.awk_store.specs.Kept.{Kept, array, own_text, reference}
 use Rattle.awk_streams.specs.Tables.{Table}
 use Rattle.awk_store.specs.Acts.{Passes}
 use Rattle.awk_store.specs.Wholes.{names_in}
@@ -89,6 +91,12 @@ pub record HoldsOperands (kept : Kept) (first : Expr) (rest : List (Joined Expr)
     pub there : length (text_of val) ≤ most_bytes →
         IsThere (λ names. p.concat (view names first) (joins_of (map (view_joined names) rest))) kept val
     pub is_text : 0 < length rest → val ≡ v.Text (text_of val)
+
+-- subscripts are there, and their texts with SUBSEP between are this key
+pub record MakesKey (keys : List Expr) (kept : Kept) (key : List ℕ) : Type 0 where
+  pub vals : List Value
+  pub there : AreThere kept keys vals
+  pub is : limited (joined (own_text kept own.Subsep) vals) ≡ Ok key
 
 -- subscripts are this key, of whichever array
 abbrev pub IsKey : List Expr → Kept → List ℕ → Type 0

@@ -14,6 +14,8 @@ use crate::effects::effect;
 use crate::loops::{first_then, over_keys, turn_first, while_loop};
 use crate::output::{print, printf};
 use awk_builtins::arrays::remove_all;
+use awk_builtins::at_hand::elements::removed_at_hand;
+use awk_builtins::at_hand::texts::split_for_items;
 use awk_builtins::keys::remove;
 use awk_forms::context::{Context, Run};
 use awk_forms::evaluates::Evaluates;
@@ -184,8 +186,33 @@ pub fn plain<W: World, E: Evaluates<W>>(
     Ok(Flow::On)
 }
 
-/// `delete array [ list ]`
+/// `delete array [ list ]`: where the key is at hand, it is not copied.
 fn delete<W: World, E: Evaluates<W>>(
+    cx: &Context<'_>,
+    place: Place,
+    array: Variable,
+    keys: &[Expr],
+    on: E,
+    run: &mut Run,
+    world: &mut W,
+) -> Result<Flow, Halt>
+    requires can { E.can on }
+    requires owns { Owns (W.open_numbers world.old) run.old.streams }
+    ensures { Does W.World cx.now
+        (λ g. At (Doing (p.delete place (variable_of (names_in g) array) (map (view (names_in g)) keys.now))) [])
+        (λ g. flows)
+        (whole_of run.old) world.old result (whole_of run.new) world.new }
+{
+    split_for_items(&mut run.store, keys)?;
+    let is_removed = removed_at_hand(&mut run.store, &mut run.line, array, keys);
+    if is_removed {
+        return Ok(Flow::On);
+    }
+    general_delete(cx, place, array, keys, on, run, world)
+}
+
+/// The same, of whatever subscripts.
+fn general_delete<W: World, E: Evaluates<W>>(
     cx: &Context<'_>,
     place: Place,
     array: Variable,

@@ -1,14 +1,14 @@
 // Elements whose key is at hand, and what else is read or set without a move for its parts: the key is not copied.
-ghost use Rattle.awk_builtins.specs.AtHand.{AddsAt, AreThere, IsAtKey, IsKey};
+ghost use Rattle.awk_builtins.specs.AtHand.{AddsAt, AreThere, IsAtKey, IsKey, MakesKey};
 ghost use Rattle.awk_builtins.specs.Lines.{held};
 ghost use Rattle.awk_fields.specs.Rows.{IsValueAt, joined};
 ghost use Rattle.awk_machine.specs.Expressions.{either};
 ghost use Rattle.awk_machine.specs.Forms.{spot, value};
-ghost use Rattle.awk_machine.specs.Pieces.{give};
+ghost use Rattle.awk_machine.specs.Pieces.{At, Doing, give};
 ghost use Rattle.awk_machine.specs.State.{Given};
 ghost use Rattle.awk_numbers.specs.declared.number.Number.TheVariants as number;
 ghost use Rattle.awk_program.specs.Program as p;
-ghost use Rattle.awk_program.specs.View.{Names, view_target};
+ghost use Rattle.awk_program.specs.View.{Names, variable_of, view, view_target};
 ghost use Rattle.awk_program.specs.declared.operators.StepValue.{StepValue as Which};
 ghost use Rattle.awk_program.specs.declared.variables.Own.TheVariants as own;
 ghost use Rattle.awk_store.specs.Acts.{Acts, Passes};
@@ -23,7 +23,7 @@ ghost use Rattle.awk_text.specs.Values.{text_of};
 ghost use Rattle.awk_text.specs.declared.value.Value.TheVariants as v;
 ghost use Rattle.awk_text.specs.declared.value.Value.{Value as Val};
 ghost use Rattle.std.specs.Fmt.{decimal};
-ghost use Rattle.std.specs.Prelude.{IfSome, List, Some, false, length, pos, true, ◌≡◌, ◌≤◌};
+ghost use Rattle.std.specs.Prelude.{[], IfSome, List, Some, false, length, map, pos, true, ◌≡◌, ◌≤◌};
 
 use crate::at_hand::texts::{add_item, add_others, join_operands};
 use crate::at_hand::values::{MOST_LEVELS, at_hand, number_at_hand, number_there};
@@ -96,7 +96,7 @@ fn join_subscripts(line: &mut Line, store: &Store, keys: &[Expr]) -> bool
 /// The key of several subscripts that are at hand, in the line.
 #[inline(never)]
 fn several_at_hand<'a>(store: &Store, line: &'a mut Line, keys: &[Expr]) -> Option<&'a [u8]>
-    ensures { IfSome result (λ key. IsKey keys.now store.now key.now) }
+    ensures { IfSome result (λ key. MakesKey keys.now store.now key.now) }
 {
     if !join_subscripts(line, store, keys) {
         return None;
@@ -106,7 +106,7 @@ fn several_at_hand<'a>(store: &Store, line: &'a mut Line, keys: &[Expr]) -> Opti
 
 /// The key of subscripts that are at hand, or of one whose operands are, in the line.
 pub fn key_at_hand<'a>(store: &Store, line: &'a mut Line, keys: &[Expr]) -> Option<&'a [u8]>
-    ensures { IfSome result (λ key. IsKey keys.now store.now key.now) }
+    ensures { IfSome result (λ key. MakesKey keys.now store.now key.now) }
 {
     let [one] = keys else {
         return several_at_hand(store, line, keys);
@@ -304,4 +304,24 @@ pub fn step_at_key(
     let (before, behind) = stepped_at(store.numbers(), place, how, &old)?;
     set_element(store, at_name, array, key, Value::of(behind))?;
     Ok((before, behind))
+}
+
+/// `delete array [ list ]`, where the key is at hand, and so it is not copied. Answers whether it did: the element is
+/// removed if it is there.
+pub fn removed_at_hand(
+    store: &mut Store,
+    line: &mut Line,
+    array: Variable,
+    keys: &[Expr],
+) -> bool
+    ensures done { result ≡ true → (g : Given) (t : Table) (place : Place) →
+        Passes g (At (Doing (p.delete place (variable_of (names_in g) array) (map (view (names_in g)) keys.now))) [])
+        (store.old, t) (λ k. k) (store.new, t) }
+    ensures not_done { result ≡ false → store.new ≡ store.old }
+{
+    let Some(key) = key_at_hand(store, line, keys) else {
+        return false;
+    };
+    store.remove(array, key);
+    true
 }

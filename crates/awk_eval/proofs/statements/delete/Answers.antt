@@ -1,59 +1,48 @@
-use Rattle.awk_eval.proofs.Printing.{count_items, waits_deleted}
-use Rattle.awk_forms.proofs.Turns.{filled_from}
-use Rattle.awk_streams.proofs.Chain.{at_once, done, part, stop}
-use Rattle.awk_machine.specs.Forms.{value}
-use Rattle.awk_machine.specs.Pieces.{Doing}
+use Rattle.awk_streams.proofs.Chain.{at_once, done, part, passes, stop}
+use Rattle.awk_machine.specs.Pieces.{At, Doing}
+use Rattle.awk_program.specs.Program as p
 use Rattle.awk_program.specs.View.{variable_of, view}
-use Rattle.awk_store.proofs.Acting.{acted}
+use Rattle.awk_store.proofs.Acting.{acted, done as there}
 use Rattle.awk_store.specs.Wholes.{names_in}
-use Rattle.std.proofs.Common.{map, refl}
+use Rattle.awk_streams.specs.Tasks.{goes_on}
+use Rattle.std.proofs.Common.{[], map, refl}
 use Rattle.std.proofs.lemmas.Result.{err_from_is_err_and}
 use Rattle.awk_eval.proofs.statements.delete.Goals as goal
-use Rattle.awk_program.specs.Program as p
 
-pub returns-in_err-fill : goal.returns-in_err-fill
-returns-in_err-fill g c =
+pub returns-in_err-split_for_items : goal.returns-in_err-split_for_items
+returns-in_err-split_for_items g c =
     let e = err_from_is_err_and c.from_residual.result c.from_residual.ensures.1 in
     rw (e.1, e.2) (record {
       plays = λ m is. stop _ (λ k. refl) (at_once _ _ _)
-          (filled_from _ _ c.new-values.ensures.items c.fill.ensures.plays m is
-          (Doing (p.delete c.args.place (variable_of (names_in m) c.args.array)
-          (map (view (names_in m)) c.args.keys.now)))
-          (waits_deleted m c.args.place (variable_of (names_in m) c.args.array)
-          (map (view (names_in m)) c.args.keys.now))) c.in_err-fill.was;
-      owns = c.fill.ensures.plays.owns;
+          (acted (c.split_for_items.ensures m c.args.run.now.streams
+          (At (Doing (p.delete c.args.place (variable_of (names_in m) c.args.array)
+          (map (view (names_in m)) c.args.keys.now))) []))) c.in_err-split_for_items.was;
+      owns =
+          c.requires.owns;
     })
 
-pub returns-in_err-remove : goal.returns-in_err-remove
-returns-in_err-remove g c =
-    let e = err_from_is_err_and c.from_residual-in_err-remove.result c.from_residual-in_err-remove.ensures.1 in
-    rw (e.1, e.2) (record {
-      plays =
-          λ m is. stop _ (λ k. refl)
-          (part _ (at_once _ _ _) (filled_from _ _ c.new-values.ensures.items c.fill.ensures.plays m is
-          (Doing (p.delete c.args.place (variable_of (names_in m) c.args.array)
-          (map (view (names_in m)) c.args.keys.now)))
-          (waits_deleted m c.args.place (variable_of (names_in m) c.args.array)
-          (map (view (names_in m)) c.args.keys.now))) c.in_ok-fill.was)
-          (acted (rw c.as_slice.ensures.value at (c.remove.ensures m c.fill.new.run.streams
-          (map (view (names_in m)) c.args.keys.now)
-          (rw c.as_slice.ensures.value (count_items (view (names_in m)) c.args.keys.now _ _ c.new-values.ensures.items
-          c.in_ok-fill.ensures.count))))) c.in_err-remove.was;
-      owns = c.fill.ensures.plays.owns;
-    })
+pub returns-then-is_removed : goal.returns-then-is_removed
+returns-then-is_removed g c =
+    record {
+      plays = λ m is. done (part _
+          (part _ (at_once _ _ _)
+          (acted (c.split_for_items.ensures m c.args.run.now.streams
+          (At (Doing (p.delete c.args.place (variable_of (names_in m) c.args.array)
+          (map (view (names_in m)) c.args.keys.now))) [])))
+          c.in_ok-split_for_items.was) (acted (there {on = goes_on} {x = tt {0}}
+          (c.removed_at_hand-is_removed.ensures.done c.if-is_removed.true m c.args.run.now.streams c.args.place))) refl);
+      owns = c.requires.owns;
+    }
 
 pub returns : goal.returns
 returns g c =
     record {
-      plays = λ m is. done
-          (part _ (part _ (at_once _ _ _) (filled_from _ _ c.new-values.ensures.items c.fill.ensures.plays m is
-          (Doing (p.delete c.args.place (variable_of (names_in m) c.args.array)
-          (map (view (names_in m)) c.args.keys.now)))
-          (waits_deleted m c.args.place (variable_of (names_in m) c.args.array)
-          (map (view (names_in m)) c.args.keys.now))) c.in_ok-fill.was)
-          (acted (rw c.as_slice.ensures.value at (c.remove.ensures m c.fill.new.run.streams
-          (map (view (names_in m)) c.args.keys.now)
-          (rw c.as_slice.ensures.value (count_items (view (names_in m)) c.args.keys.now _ _ c.new-values.ensures.items
-          c.in_ok-fill.ensures.count))))) c.in_ok-remove.was);
-      owns = c.fill.ensures.plays.owns;
+      plays = λ m is. rw (c.removed_at_hand-is_removed.ensures.not_done c.if-is_removed.false) at
+          (passes (part _ (at_once _ _ _)
+          (acted (c.split_for_items.ensures m c.args.run.now.streams
+          (At (Doing (p.delete c.args.place (variable_of (names_in m) c.args.array)
+          (map (view (names_in m)) c.args.keys.now))) [])))
+          c.in_ok-split_for_items.was)
+          (rw (c.removed_at_hand-is_removed.ensures.not_done c.if-is_removed.false) at (c.general_delete.ensures.plays m is)));
+      owns = c.general_delete.ensures.owns;
     }

@@ -6,6 +6,7 @@ use Rattle.awk_store.specs.Wholes.{names_in}
 use Rattle.awk_text.specs.Values.{text_of}
 use Rattle.awk_text.specs.declared.value.Value.TheVariants as v
 use Rattle.awk_builtins.proofs.Storing.{assigns_element}
+use Rattle.awk_builtins.proofs.Subscripts.{is_key}
 use Rattle.awk_builtins.proofs.at_hand.assignments.assigned_element.Goals as goal
 
 pub returns-in-Some-number_of_key-clause-done : goal.returns-in-Some-number_of_key-clause-done
@@ -27,6 +28,6 @@ returns-in-Ok-clause-done c = λ yes place at_name.
       val = c.in-Some.value;
       gives = λ g t. assigns_element g (c.args.store.now, t) c.put.new.self place at_name c.args.array
           (expressions_of (map (view (names_in g)) c.args.keys.now)) c.in-Some-key_at_hand.key.now
-          (c.in-Some-key_at_hand.ensures g t at_name (variable_of (names_in g) c.args.array)) a.0 c.in-Some.value a.1
+          (is_key c.in-Some-key_at_hand.ensures g t at_name (variable_of (names_in g) c.args.array)) a.0 c.in-Some.value a.1
           a.2 (view (names_in g) c.args.x.now) (c.chosen.ensures c.in-Some.value c.in-Some.ensures g t);
     }
