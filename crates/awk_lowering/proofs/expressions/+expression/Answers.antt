@@ -124,8 +124,8 @@ expression-returns-in-Pipe t c =
 pub expression-returns-in-Compare : goal.expression-returns-in-Compare
 expression-returns-in-Compare t c =
     let x = rw c.get-in-Compare.ensures at c.part-x-in-Compare.ensures in
-    let y = rw c.get-in-Compare-2.ensures at c.part-in-Compare.ensures in
-    rw (c.in-Compare.is, view-Compare, ← c.comparison.ensures) (c.compare_of.ensures _ _ _ x y)
+    let y = rw c.get-in-Compare-2.ensures at c.part-y.ensures in
+    rw (c.in-Compare.is, view-Compare, ← c.comparison.ensures) (c.compared_of.ensures _ _ x y)
 
 pub expression-returns-in-Match : goal.expression-returns-in-Match
 expression-returns-in-Match t c =
@@ -161,7 +161,7 @@ expression-returns-in-Or t c =
 pub expression-returns-in-Choice : goal.expression-returns-in-Choice
 expression-returns-in-Choice t c =
     let x = rw c.get-in-Choice.ensures at c.part-x-in-Choice.ensures in
-    let y = rw c.get-in-Choice-2.ensures at c.part-y.ensures in
+    let y = rw c.get-in-Choice-2.ensures at c.part-y-in-Choice.ensures in
     let z = rw c.get-in-Choice-3.ensures at c.part-in-Choice.ensures in
     rw (c.in-Choice.is, view-Choice) (c.choose_of.ensures _ _ _ _ x y z)
 
@@ -169,7 +169,7 @@ pub expression-returns-in-Assign : goal.expression-returns-in-Assign
 expression-returns-in-Assign t c =
     let x = rw c.get-in-Assign.ensures at c.target-x-in-Assign.ensures in
     let y = rw c.get-in-Assign-2.ensures at c.part-in-Assign.ensures in
-    rw (c.in-Assign.is, view-Assign) (c.assign_of.ensures _ _ _ x y)
+    rw (c.in-Assign.is, view-Assign) (c.set_of.ensures _ _ x y)
 
 pub part-returns : goal.part-returns
 part-returns t c =
