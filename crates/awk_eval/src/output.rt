@@ -190,13 +190,7 @@ pub fn printf<W: World, E: Evaluates<W>>(
         return Ok(Flow::On);
     };
     let target = on.value(cx, &to.target, run, world)?;
-    let text = formatted_for(
-        cx.alloc,
-        &run.store,
-        place,
-        values.as_slice(),
-        &target,
-    )?;
+    let text = formatted_for(cx.alloc, &run.store, place, values.as_slice(), &target)?;
     put_to(
         cx.alloc,
         to.place,
