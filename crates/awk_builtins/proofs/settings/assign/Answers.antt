@@ -22,7 +22,8 @@ returns-in_err-set c = λ g t r x is.
 
 pub returns : goal.returns
 returns c = λ g t r x is.
-    done (moves (doing (tt {0}) (moves {then_ = λ k. Do (Set (meant (names_in g) c.args.to) c.args.place c.args.value) ∷ Do
+    done (moves (doing (tt {0}) (moves {then_ = λ k. Do (Set (meant (names_in g) c.args.to) c.args.place c.args.value)
+    ∷ Do
     (Give (stored c.args.store.now.numbers (meant (names_in g) c.args.to) c.args.value)) ∷ k}
     (at_rest (At (Value_of (p.assign c.args.place r x)) (c.args.value ∷ value_of c.args.to ∷ [])) (c.args.store.now, t))
     (λ k hid d a. rw is refl)) (rw c.stored.ensures.same at (c.set.ensures g t)) c.in_ok-set.was)

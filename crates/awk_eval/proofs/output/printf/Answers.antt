@@ -62,10 +62,12 @@ returns-in_err-text g c =
           (filled_from _ (c.in_ok-format.format ∷ []) (c.in_ok-append.ensures.ok
           ∙ ap (λ vs. vs ++ c.in_ok-format.format ∷ []) c.new-values.ensures.items) c.fill.ensures.plays m is
           (Doing (p.printf c.args.place (view (names_in m) c.args.x.now) (map (view (names_in m)) c.args.xs.now) None))
-          (waits_formatted m c.args.place (view (names_in m) c.args.x.now) (map (view (names_in m)) c.args.xs.now) None))
+          (waits_formatted m c.args.place (view (names_in m) c.args.x.now) (map (view (names_in m)) c.args.xs.now)
+          None))
           c.in_ok-fill.was) (acted (rw c.as_slice.ensures.value at (c.formatted_line.ensures m c.fill.new.run.streams
           (view (names_in m) c.args.x.now) (map (view (names_in m)) c.args.xs.now)
-          (rw c.as_slice.ensures.value (count_formatted (view (names_in m)) (view (names_in m) c.args.x.now) c.args.xs.now
+          (rw c.as_slice.ensures.value (count_formatted (view (names_in m)) (view (names_in m) c.args.x.now)
+          c.args.xs.now
           _ _ _ (c.in_ok-append.ensures.ok ∙ ap (λ vs. vs ++ c.in_ok-format.format ∷ []) c.new-values.ensures.items)
           c.in_ok-fill.ensures.count))))) c.in_err-text.was;
       owns = c.fill.ensures.plays.owns;
@@ -81,10 +83,12 @@ returns-in_err-put g c =
           c.in_ok-format.was) (filled_from _ (c.in_ok-format.format ∷ []) (c.in_ok-append.ensures.ok
           ∙ ap (λ vs. vs ++ c.in_ok-format.format ∷ []) c.new-values.ensures.items) c.fill.ensures.plays m is
           (Doing (p.printf c.args.place (view (names_in m) c.args.x.now) (map (view (names_in m)) c.args.xs.now) None))
-          (waits_formatted m c.args.place (view (names_in m) c.args.x.now) (map (view (names_in m)) c.args.xs.now) None))
+          (waits_formatted m c.args.place (view (names_in m) c.args.x.now) (map (view (names_in m)) c.args.xs.now)
+          None))
           c.in_ok-fill.was) (acted (rw c.as_slice.ensures.value at (c.formatted_line.ensures m c.fill.new.run.streams
           (view (names_in m) c.args.x.now) (map (view (names_in m)) c.args.xs.now)
-          (rw c.as_slice.ensures.value (count_formatted (view (names_in m)) (view (names_in m) c.args.x.now) c.args.xs.now
+          (rw c.as_slice.ensures.value (count_formatted (view (names_in m)) (view (names_in m) c.args.x.now)
+          c.args.xs.now
           _ _ _ (c.in_ok-append.ensures.ok ∙ ap (λ vs. vs ++ c.in_ok-format.format ∷ []) c.new-values.ensures.items)
           c.in_ok-fill.ensures.count))))) c.in_ok-text.was)
           (lifted m c.fill.new.run.store (λ s. c.put.ensures.task m s c.fill.new.run.streams (Standard 1) refl))
@@ -101,10 +105,12 @@ returns-in_default g c =
           (filled_from _ (c.in_ok-format.format ∷ []) (c.in_ok-append.ensures.ok
           ∙ ap (λ vs. vs ++ c.in_ok-format.format ∷ []) c.new-values.ensures.items) c.fill.ensures.plays m is
           (Doing (p.printf c.args.place (view (names_in m) c.args.x.now) (map (view (names_in m)) c.args.xs.now) None))
-          (waits_formatted m c.args.place (view (names_in m) c.args.x.now) (map (view (names_in m)) c.args.xs.now) None))
+          (waits_formatted m c.args.place (view (names_in m) c.args.x.now) (map (view (names_in m)) c.args.xs.now)
+          None))
           c.in_ok-fill.was) (acted (rw c.as_slice.ensures.value at (c.formatted_line.ensures m c.fill.new.run.streams
           (view (names_in m) c.args.x.now) (map (view (names_in m)) c.args.xs.now)
-          (rw c.as_slice.ensures.value (count_formatted (view (names_in m)) (view (names_in m) c.args.x.now) c.args.xs.now
+          (rw c.as_slice.ensures.value (count_formatted (view (names_in m)) (view (names_in m) c.args.x.now)
+          c.args.xs.now
           _ _ _ (c.in_ok-append.ensures.ok ∙ ap (λ vs. vs ++ c.in_ok-format.format ∷ []) c.new-values.ensures.items)
           c.in_ok-fill.ensures.count))))) c.in_ok-text.was)
           (lifted m c.fill.new.run.store (λ s. c.put.ensures.task m s c.fill.new.run.streams (Standard 1) refl))

@@ -30,7 +30,8 @@ returns-then-is_removed g c =
           (At (Doing (p.delete c.args.place (variable_of (names_in m) c.args.array)
           (map (view (names_in m)) c.args.keys.now))) [])))
           c.in_ok-split_for_items.was) (acted (there {on = goes_on} {x = tt {0}}
-          (c.removed_at_hand-is_removed.ensures.done c.if-is_removed.true m c.args.run.now.streams c.args.place))) refl);
+          (c.removed_at_hand-is_removed.ensures.done c.if-is_removed.true m c.args.run.now.streams c.args.place)))
+          refl);
       owns = c.requires.owns;
     }
 

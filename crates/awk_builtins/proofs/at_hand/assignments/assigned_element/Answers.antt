@@ -28,6 +28,7 @@ returns-in-Ok-clause-done c = λ yes place at_name.
       val = c.in-Some.value;
       gives = λ g t. assigns_element g (c.args.store.now, t) c.put.new.self place at_name c.args.array
           (expressions_of (map (view (names_in g)) c.args.keys.now)) c.in-Some-key_at_hand.key.now
-          (is_key c.in-Some-key_at_hand.ensures g t at_name (variable_of (names_in g) c.args.array)) a.0 c.in-Some.value a.1
+          (is_key c.in-Some-key_at_hand.ensures g t at_name (variable_of (names_in g) c.args.array)) a.0
+          c.in-Some.value a.1
           a.2 (view (names_in g) c.args.x.now) (c.chosen.ensures c.in-Some.value c.in-Some.ensures g t);
     }
