@@ -1,9 +1,7 @@
 -- What contracts see of a record.
 use Rattle.std.specs.Prelude.{ℕ, List, map, [], All}
-use Rattle.awk_text.specs.declared.value.Value.{Value}
-use Rattle.awk_text.specs.declared.value.Value.TheVariants.{Input}
-use Rattle.awk_fields.specs.Edits.{IsSoundEdited, edited_values, edited_whole}
-use Rattle.awk_fields.specs.Rows.{Held, unsplit, known, Row, IsKept}
+use Rattle.awk_fields.specs.Edits.{IsSoundEdited, edited_fields, edited_whole}
+use Rattle.awk_fields.specs.Rows.{Field, Held, unsplit, known, Row, IsKept, input}
 use Rattle.awk_fields.specs.Spans.{IsWithin, part}
 use Rattle.awk_fields.specs.declared.edits.Edited.{Edited}
 use Rattle.awk_fields.specs.declared.parts.Parts.{Parts}
@@ -11,14 +9,14 @@ use Rattle.awk_fields.specs.declared.parts.State.{State}
 use Rattle.awk_fields.specs.declared.parts.State.TheVariants.{Unsplit, Spans, Edits}
 use Rattle.awk_fields.specs.declared.spans.Span.{Span}
 
--- the values of a record that is split or was edited
-abbrev pub values_by : State → List ℕ → List Span → List Value → List Value
-values_by (Unsplit splitter) text spans edited = []
-values_by Spans text spans edited = map (λ span. Input (part text span)) spans
-values_by Edits text spans edited = edited
+-- the fields of a record that is split or was edited
+abbrev pub fields_by : State → List ℕ → List Span → List Field → List Field
+fields_by (Unsplit splitter) text spans edited = []
+fields_by Spans text spans edited = map (λ span. input (part text span)) spans
+fields_by Edits text spans edited = edited
 
-abbrev pub values_of : List ℕ → Parts → List Value
-values_of text parts = values_by parts.state text parts.spans.items (edited_values text parts.edited)
+abbrev pub fields_of : List ℕ → Parts → List Field
+fields_of text parts = fields_by parts.state text parts.spans.items (edited_fields text parts.edited)
 
 abbrev pub whole_by : State → List ℕ → List ℕ → List ℕ
 whole_by (Unsplit splitter) text edited = text
@@ -28,13 +26,13 @@ whole_by Edits text edited = edited
 abbrev pub whole_of : List ℕ → Parts → List ℕ
 whole_of text parts = whole_by parts.state text (edited_whole text parts.edited)
 
-abbrev pub held_by : State → List Value → Held
-held_by (Unsplit splitter) values = unsplit splitter
-held_by Spans values = known values
-held_by Edits values = known values
+abbrev pub held_by : State → List Field → Held
+held_by (Unsplit splitter) fields = unsplit splitter
+held_by Spans fields = known fields
+held_by Edits fields = known fields
 
 abbrev pub row_of : List ℕ → Parts → Row
-row_of text parts = record { whole = whole_of text parts; fields = held_by parts.state (values_of text parts) }
+row_of text parts = record { whole = whole_of text parts; fields = held_by parts.state (fields_of text parts) }
 
 abbrev pub IsSoundBy : State → List ℕ → List Span → Edited → Type 0
 IsSoundBy (Unsplit splitter) text spans edited = Unit {0}

@@ -12,28 +12,45 @@ use Rattle.awk_text.specs.declared.fault.Fault.TheVariants.{FieldNumber, TextToo
 use Rattle.awk_fields.specs.Separators.{Separator}
 use Rattle.awk_fields.specs.Fields.{Fields}
 
+-- a field: its value, and what stands for that in the record's text, which is another value where the value is a number
+-- that has its text by a format
+pub record Field : Type 0 where
+  pub value : Value
+  pub shown : Value
+
+abbrev pub plain : Value → Field
+plain value = record { value = value; shown = value }
+
+-- a text's own
+abbrev pub input : List ℕ → Field
+input text = plain (Input text)
+
+-- one that is not there
+abbrev pub blank : Field
+blank = plain Unset
+
 pub data Held : Type 0 where
   -- the text's own, by what separates them
   unsplit : Separator → Held
-  known : List Value → Held
+  known : List Field → Held
 
 pub record Row : Type 0 where
   pub whole : List ℕ
   pub fields : Held
 
--- these values are the fields: a text's own are input
-abbrev pub AreHeld : List ℕ → Held → List Value → Type 0
-AreHeld whole (unsplit separator) values =
-    (texts : List (List ℕ)) × Fields separator whole texts × (values ≡ map Input texts)
-AreHeld whole (known found) values = values ≡ found
+-- these are the fields: a text's own are input
+abbrev pub AreHeld : List ℕ → Held → List Field → Type 0
+AreHeld whole (unsplit separator) fields =
+    (texts : List (List ℕ)) × Fields separator whole texts × (fields ≡ map input texts)
+AreHeld whole (known found) fields = fields ≡ found
 
-abbrev pub HasFields : Row → List Value → Type 0
-HasFields row values = AreHeld row.whole row.fields values
+abbrev pub HasFields : Row → List Field → Type 0
+HasFields row fields = AreHeld row.whole row.fields fields
 
 -- the same record, or the same once its fields are known
 abbrev pub IsKept : Row → Row → Type 0
 IsKept old new = (new ≡ old)
-    ⊎ ((values : List Value) × HasFields old values × (new ≡ record { whole = old.whole; fields = known values }))
+    ⊎ ((fields : List Field) × HasFields old fields × (new ≡ record { whole = old.whole; fields = known fields }))
 
 -- ---- numbers of fields
 
@@ -59,55 +76,63 @@ field_place n = behind_whole (place_of n)
 -- the value of a field by its number: 0 is the whole text, and a field above the last one is unset
 abbrev pub IsValueAt : Row → ℕ → Value → Type 0
 IsValueAt row zero value = value ≡ Input row.whole
-IsValueAt row (suc k) value = (values : List Value) × HasFields row values × (value ≡ slice_index_or values k Unset)
+IsValueAt row (suc k) value =
+    (fields : List Field) × HasFields row fields × (value ≡ (slice_index_or fields k blank).value)
 
 -- the fields with unset ones behind them, up to a count
-abbrev pub padded : List Value → ℕ → List Value
-padded values count = values ++ replicate (count - length values) Unset
+abbrev pub padded : List Field → ℕ → List Field
+padded fields count = fields ++ replicate (count - length fields) blank
 
-abbrev pub with_field : List Value → ℕ → Value → List Value
-with_field values k value = slice_set (padded values (k + 1)) k value
+abbrev pub with_field : List Field → ℕ → Field → List Field
+with_field fields k field = slice_set (padded fields (k + 1)) k field
 
-abbrev pub with_count : List Value → ℕ → List Value
-with_count values count = take count (padded values count)
+abbrev pub with_count : List Field → ℕ → List Field
+with_count fields count = take count (padded fields count)
 
 -- the texts of the values, with OFS between
 abbrev pub joined : List ℕ → List Value → List ℕ
 joined ofs [] = []
 joined ofs (value ∷ values) = text_of value ++ flat_map (λ v. ofs ++ text_of v) values
 
--- the record with these fields, its text rebuilt of them
-pub record IsRebuilt (ofs : List ℕ) (values : List Value) (new : Row) : Type 0 where
-  pub fits : length (joined ofs values) ≤ most_bytes
-  pub new_is : new ≡ record { whole = joined ofs values; fields = known values }
+abbrev pub shown_in : Field → Value
+shown_in field = field.shown
 
-pub record SetsField (old : Row) (n : ℤ) (value : Value) (ofs : List ℕ) (new : Row) : Type 0 where
+-- the text of a record that is made of these fields
+abbrev pub rebuilt : List ℕ → List Field → List ℕ
+rebuilt ofs fields = joined ofs (map shown_in fields)
+
+-- the record with these fields, its text rebuilt of them
+pub record IsRebuilt (ofs : List ℕ) (fields : List Field) (new : Row) : Type 0 where
+  pub fits : length (rebuilt ofs fields) ≤ most_bytes
+  pub new_is : new ≡ record { whole = rebuilt ofs fields; fields = known fields }
+
+pub record SetsField (old : Row) (n : ℤ) (field : Field) (ofs : List ℕ) (new : Row) : Type 0 where
   pub place : ℕ
   pub place_is : field_place n ≡ Ok place
-  pub values : List Value
-  pub before : HasFields old values
-  pub after : IsRebuilt ofs (with_field values place value) new
+  pub fields : List Field
+  pub before : HasFields old fields
+  pub after : IsRebuilt ofs (with_field fields place field) new
 
 pub record SetsCount (old : Row) (n : ℤ) (ofs : List ℕ) (new : Row) : Type 0 where
   pub count : ℕ
   pub count_is : place_of n ≡ Ok count
-  pub values : List Value
-  pub before : HasFields old values
-  pub after : IsRebuilt ofs (with_count values count) new
+  pub fields : List Field
+  pub before : HasFields old fields
+  pub after : IsRebuilt ofs (with_count fields count) new
 
 -- why a field can't be set, and a count
-abbrev pub SetsNoField : Row → ℤ → Value → List ℕ → Fault → Type 0
-SetsNoField old n value ofs fault =
+abbrev pub SetsNoField : Row → ℤ → Field → List ℕ → Fault → Type 0
+SetsNoField old n field ofs fault =
     (fault ≡ Memory)
     ⊎ ((fault ≡ FieldNumber) × (field_place n ≡ Err FieldNumber))
     ⊎ ((fault ≡ TextTooLong)
-    × ((place : ℕ) × (values : List Value) × (field_place n ≡ Ok place) × HasFields old values
-    × (most_bytes < length (joined ofs (with_field values place value)))))
+    × ((place : ℕ) × (fields : List Field) × (field_place n ≡ Ok place) × HasFields old fields
+    × (most_bytes < length (rebuilt ofs (with_field fields place field)))))
 
 abbrev pub SetsNoCount : Row → ℤ → List ℕ → Fault → Type 0
 SetsNoCount old n ofs fault =
     (fault ≡ Memory)
     ⊎ ((fault ≡ FieldNumber) × (place_of n ≡ Err FieldNumber))
     ⊎ ((fault ≡ TextTooLong)
-    × ((count : ℕ) × (values : List Value) × (place_of n ≡ Ok count) × HasFields old values
-    × (most_bytes < length (joined ofs (with_count values count)))))
+    × ((count : ℕ) × (fields : List Field) × (place_of n ≡ Ok count) × HasFields old fields
+    × (most_bytes < length (rebuilt ofs (with_count fields count)))))

@@ -3,14 +3,14 @@
 ghost use Rattle.std.specs.Prelude.{◌≡◌, ◌++◌, ◌+◌, ◌-◌, ◌<◌, ◌≤◌, ◌^◌, ◌⊎◌, All, length, map, replicate, IfOk, OnOk};
 ghost use Rattle.std.specs.Prelude.{OnErr, IfErr, IfSome, slice_index_or};
 ghost use Rattle.std.specs.List.{sum_by};
-ghost use Rattle.awk_fields.specs.Edits.{AreSet, IsPartOf, IsSame, IsSoundEdited, edited_values, edited_whole};
-ghost use Rattle.awk_fields.specs.Edits.{part_bytes};
-ghost use Rattle.awk_fields.specs.Rows.{joined, with_count, with_field};
+ghost use Rattle.awk_fields.specs.Edits.{AreSet, IsPartOf, IsSame, IsSoundEdited, edited_fields, edited_whole};
+ghost use Rattle.awk_fields.specs.Edits.{field_of, part_bytes};
+ghost use Rattle.awk_fields.specs.Rows.{rebuilt, with_count, with_field};
 ghost use Rattle.awk_fields.specs.Spans.{IsWithin};
 ghost use Rattle.awk_text.specs.Limits.{most_bytes};
 
 use crate::joining::{fit, join};
-use crate::part::{Part, part_len, value_len};
+use crate::part::{Part, part_len};
 use crate::spans::Span;
 use awk_text::Memory;
 use awk_text::fault::Fault;
@@ -31,7 +31,7 @@ pub enum Whole {
 #[derive(Drop)]
 pub struct Edited {
     pub parts: Vec<Part>,
-    /// How many bytes their texts have together. So wide that no sum of lengths is too great.
+    /// How many bytes they have together in the whole text. So wide that no sum of lengths is too great.
     pub bytes: u128,
     /// What stands between them where the whole text is joined.
     pub ofs: Vec<u8>,
@@ -119,7 +119,7 @@ fn prepare(
     Ok(())
 }
 
-/// How many bytes the text of the part at a place has, 0 where there is none.
+/// How many bytes the part at a place has in the whole text, 0 where there is none.
 fn len_at(parts: &[Part], text: &[u8], at: usize) -> usize
     requires { All (IsPartOf text.now) parts.now }
     ensures { result ≡ part_bytes text.now (slice_index_or parts.now at (Part.Own Value.Unset)) }
@@ -130,7 +130,7 @@ fn len_at(parts: &[Part], text: &[u8], at: usize) -> usize
     }
 }
 
-/// How many bytes the texts of the parts have together.
+/// How many bytes the parts have together in the whole text.
 fn total_len(parts: &[Part], text: &[u8]) -> u128
     requires within { All (IsPartOf text.now) parts.now }
     requires small { sum_by (part_bytes text.now) parts.now < 2 ^ 128 }
@@ -148,25 +148,28 @@ pub fn put(
     edited: &mut Edited,
     text: &[u8],
     at: usize,
-    value: Value,
+    part: Part,
     ofs: &[u8],
 ) -> Result<(), Fault>
     requires small { at < 65535 }
+    requires within { IsPartOf text.now part }
     requires sound { IsSoundEdited text.now edited.old }
     ensures ok { OnOk result
-        (AreSet text.now ofs.now (with_field (edited_values text.now edited.old) at value) edited.new) }
+        (AreSet text.now ofs.now (with_field (edited_fields text.now edited.old) at (field_of text.now part))
+        edited.new) }
     ensures err { OnErr result (IsSame text.now edited.old edited.new) }
     ensures sound { IsSoundEdited text.now edited.new }
     ensures fault { IfErr result (λ e. (e ≡ Fault.Memory)
         ⊎ ((e ≡ Fault.TextTooLong)
-        × (most_bytes < length (joined ofs.now (with_field (edited_values text.now edited.old) at value))))) }
+        × (most_bytes < length (rebuilt ofs.now
+        (with_field (edited_fields text.now edited.old) at (field_of text.now part)))))) }
 {
     let count = edited.parts.len().max(at + 1);
     let others = edited.bytes - len_at(edited.parts.as_slice(), text, at) as u128;
-    let bytes = others + value_len(&value) as u128;
+    let bytes = others + part_len(&part, text) as u128;
     fit(bytes, count, ofs.len())?;
     prepare(&mut edited.parts, at + 1, &mut edited.ofs, ofs)?;
-    edited.parts[at] = Part::Own(value);
+    edited.parts[at] = part;
     edited.bytes = bytes;
     edited.whole = Whole::Stale;
     Ok(())
@@ -176,12 +179,12 @@ pub fn put(
 pub fn set_len(edited: &mut Edited, text: &[u8], count: usize, ofs: &[u8]) -> Result<(), Fault>
     requires sound { IsSoundEdited text.now edited.old }
     ensures ok { OnOk result
-        (AreSet text.now ofs.now (with_count (edited_values text.now edited.old) count) edited.new) }
+        (AreSet text.now ofs.now (with_count (edited_fields text.now edited.old) count) edited.new) }
     ensures err { OnErr result (IsSame text.now edited.old edited.new) }
     ensures sound { IsSoundEdited text.now edited.new }
     ensures fault { IfErr result (λ e. (e ≡ Fault.Memory)
         ⊎ ((e ≡ Fault.TextTooLong)
-        × (most_bytes < length (joined ofs.now (with_count (edited_values text.now edited.old) count))))) }
+        × (most_bytes < length (rebuilt ofs.now (with_count (edited_fields text.now edited.old) count))))) }
 {
     let stay = count.min(edited.parts.len());
     let bytes = edited.bytes - total_len(&edited.parts[stay..], text);

@@ -1,7 +1,7 @@
 // Fields joined to a record's whole text.
 ghost use Rattle.std.specs.Prelude.{◌≡◌, ◌+◌, ◌-◌, ◌*◌, ◌<◌, ◌≤◌, All, map, OnOk, IfErr};
-ghost use Rattle.awk_fields.specs.Edits.{IsPartOf, value_of};
-ghost use Rattle.awk_fields.specs.Rows.{joined};
+ghost use Rattle.awk_fields.specs.Edits.{IsPartOf, field_of};
+ghost use Rattle.awk_fields.specs.Rows.{rebuilt};
 ghost use Rattle.awk_text.specs.Limits.{most_bytes};
 
 use crate::part::{Part, part_text};
@@ -13,7 +13,7 @@ use awk_text::texts::MOST_BYTES;
 /// Puts the texts of the parts, with `ofs` between, in place of what `made` holds.
 pub fn join(made: &mut Vec<u8>, parts: &[Part], text: &[u8], ofs: &[u8]) -> Result<(), Memory>
     requires { All (IsPartOf text.now) parts.now }
-    ensures { OnOk result (made.new.items ≡ joined ofs.now (map (value_of text.now) parts.now)) }
+    ensures { OnOk result (made.new.items ≡ rebuilt ofs.now (map (field_of text.now) parts.now)) }
 {
     made.clear();
     let [first, others @ ..] = parts else {

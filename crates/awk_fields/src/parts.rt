@@ -1,7 +1,8 @@
 // The fields of a record, which are split when they are first asked for.
 ghost use Rattle.std.specs.Prelude.{◌≡◌, List, ℕ, true, length, IfOk, OnOk, OnErr, IfErr, IfSome};
 ghost use Rattle.std.specs.List.{slice_index_or};
-ghost use Rattle.awk_fields.specs.Parts.{ArePartsKept, IsSound, IsSplitBy, row_of, values_of, whole_of};
+ghost use Rattle.awk_fields.specs.Parts.{ArePartsKept, IsSound, IsSplitBy, fields_of, row_of, whole_of};
+ghost use Rattle.awk_fields.specs.Rows.{blank};
 ghost use Rattle.awk_text.specs.Lents.{lent_value};
 
 use crate::edits::{Edited, Whole, cut, edited_whole, rebuild_edited};
@@ -117,7 +118,7 @@ pub fn known_whole<'a>(parts: &'a Parts, text: &'a [u8]) -> Option<&'a [u8]>
 
 /// How many fields there are, once they are split.
 pub fn field_count(parts: &Parts) -> usize
-    ensures { (text : List ℕ) → result ≡ length (values_of text parts.now) }
+    ensures { (text : List ℕ) → result ≡ length (fields_of text parts.now) }
 {
     match &parts.state {
         State::Unsplit(_) => 0,
@@ -129,7 +130,7 @@ pub fn field_count(parts: &Parts) -> usize
 /// The value of the field at a place, once they are split. Behind the last one it is unset.
 pub fn field_at(parts: &Parts, text: &[u8], at: usize) -> Result<Value, Fault>
     requires { IsSound text.now parts.now }
-    ensures ok { IfOk result (λ v. v ≡ slice_index_or (values_of text.now parts.now) at Value.Unset) }
+    ensures ok { IfOk result (λ v. v ≡ (slice_index_or (fields_of text.now parts.now) at blank).value) }
     ensures err { IfErr result (λ e. e ≡ Fault.Memory) }
 {
     let alloc = *parts.spans.allocator();
@@ -150,7 +151,7 @@ pub fn field_at(parts: &Parts, text: &[u8], at: usize) -> Result<Value, Fault>
 pub fn lent_at<'a>(parts: &'a Parts, text: &'a [u8], at: usize) -> Option<Lent<'a>>
     requires { IsSound text.now parts.now }
     ensures split { IfSome result (λ v. IsSplitBy parts.now.state) }
-    ensures value { IfSome result (λ v. lent_value v ≡ slice_index_or (values_of text.now parts.now) at Value.Unset) }
+    ensures value { IfSome result (λ v. lent_value v ≡ (slice_index_or (fields_of text.now parts.now) at blank).value) }
 {
     match &parts.state {
         State::Unsplit(_) => None,
@@ -168,7 +169,7 @@ pub fn lent_at<'a>(parts: &'a Parts, text: &'a [u8], at: usize) -> Option<Lent<'
 /// How many fields there are, where they are split.
 pub fn known_count(parts: &Parts) -> Option<usize>
     ensures split { IfSome result (λ n. IsSplitBy parts.now.state) }
-    ensures count { IfSome result (λ n. (text : List ℕ) → n ≡ length (values_of text parts.now)) }
+    ensures count { IfSome result (λ n. (text : List ℕ) → n ≡ length (fields_of text parts.now)) }
 {
     match &parts.state {
         State::Unsplit(_) => None,

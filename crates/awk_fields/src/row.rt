@@ -3,10 +3,11 @@ ghost use Rattle.std.specs.Prelude.{◌≡◌, ◌<◌, ◌≤◌, ◌⊎◌, �
 ghost use Rattle.std.specs.Prelude.{IfSome};
 ghost use Rattle.awk_text.specs.Limits.{most_bytes};
 ghost use Rattle.awk_text.specs.Lents.{lent_value};
-ghost use Rattle.awk_fields.specs.Rows.{known, unsplit, place_of, field_place, HasFields, IsKept, IsValueAt, SetsField};
-ghost use Rattle.awk_fields.specs.Rows.{SetsCount, SetsNoField, SetsNoCount};
+ghost use Rattle.awk_fields.specs.Rows.{Field, known, plain, unsplit, place_of, field_place, HasFields, IsKept, IsValueAt};
+ghost use Rattle.awk_fields.specs.Rows.{SetsCount, SetsField, SetsNoField, SetsNoCount};
 
 use crate::edits::{Edited, put, set_len};
+use crate::part::Part;
 use crate::parts::{
     Parts, State, edit_parts, field_at, field_count, is_text, known_count, known_whole, lent_at,
     rebuild_parts, split_parts,
@@ -147,13 +148,33 @@ impl Record {
     /// `Fault::TextTooLong` exactly where the whole text would have more than `MOST_BYTES` bytes,
     /// and with `Fault::Memory` where memory is refused; then the record is as it was.
     pub fn set_field(&mut self, n: i64, value: Value, ofs: &[u8]) -> Result<(), Fault>
-        ensures ok { OnOk result (SetsField self.old n value ofs.now self.new) }
+        ensures ok { OnOk result (SetsField self.old n (plain value) ofs.now self.new) }
         ensures err { OnErr result (IsKept self.old self.new) }
-        ensures fault { IfErr result (λ e. SetsNoField self.old n value ofs.now e) }
+        ensures fault { IfErr result (λ e. SetsNoField self.old n (plain value) ofs.now e) }
     {
         let at = field_place(n)?;
         edit_parts(&mut self.parts, self.text.bytes())?;
-        put(&mut self.parts.edited, self.text.bytes(), at, value, ofs)
+        put(&mut self.parts.edited, self.text.bytes(), at, Part::Own(value), ofs)
+    }
+
+    /// Sets a field to a number, for which this text stands in the whole text. All else, and how it fails, is as in
+    /// [`set_field`](Record::set_field).
+    pub fn set_shown(&mut self, n: i64, number: f64, shown: Octets, ofs: &[u8]) -> Result<(), Fault>
+        ensures ok { OnOk result (SetsField self.old n
+            (record { value = Value.Real number; shown = Value.Text shown }) ofs.now self.new) }
+        ensures err { OnErr result (IsKept self.old self.new) }
+        ensures fault { IfErr result (λ e. SetsNoField self.old n
+            (record { value = Value.Real number; shown = Value.Text shown }) ofs.now e) }
+    {
+        let at = field_place(n)?;
+        edit_parts(&mut self.parts, self.text.bytes())?;
+        put(
+            &mut self.parts.edited,
+            self.text.bytes(),
+            at,
+            Part::Shown(number, shown),
+            ofs,
+        )
     }
 
     /// Sets NF, the number of fields. Fields above it go, and unset ones are added below it. The
@@ -212,7 +233,7 @@ impl Record {
     ///
     /// Fails with `Fault::Memory` alone, where memory for the split is refused; then the record stays unsplit.
     pub fn count(&mut self) -> Result<i64, Fault>
-        ensures ok { IfOk result (λ n. (values : List Value) × HasFields self.new values × (n ≡ pos (length values))) }
+        ensures ok { IfOk result (λ n. (fields : List Field) × HasFields self.new fields × (n ≡ pos (length fields))) }
         ensures kept { IsKept self.old self.new }
         ensures err { OnErr result (self.new ≡ self.old) }
         ensures fault { IfErr result (λ e. e ≡ Fault.Memory) }
@@ -234,7 +255,7 @@ impl Record {
 
     /// NF, where the text is split. Takes no memory.
     pub fn known_count(&self) -> Option<i64>
-        ensures { IfSome result (λ n. (values : List Value) × HasFields self.now values × (n ≡ pos (length values))) }
+        ensures { IfSome result (λ n. (fields : List Field) × HasFields self.now fields × (n ≡ pos (length fields))) }
     {
         let count = known_count(&self.parts)?;
         Some(count as i64)
