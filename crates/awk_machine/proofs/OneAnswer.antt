@@ -8,7 +8,7 @@ use Rattle.awk_fields.specs.Separators.{IsEre, IsNoEre}
 use Rattle.awk_fields.proofs.Bests.{match_le}
 use Rattle.awk_program.specs.Slots.{Text}
 use Rattle.awk_machine.specs.Questions.{Question, Spells, Matches, Finds as FindsIn, Divides, Fields, Answer, Is}
-use Rattle.awk_machine.specs.Questions.{Places, Texts, Values, Right}
+use Rattle.awk_machine.specs.Questions.{Places, Texts, These, Right}
 use Rattle.awk_lib.specs.Replacing as all
 use Rattle.awk_lib.specs.Replacing.{AllFrom, Found, next_from, is_passed}
 use Rattle.awk_ere.proofs.Alone.{one_finding, one_test}
@@ -76,35 +76,35 @@ pub one_answer : (q : Question) (a b : Answer) → Right q a → Right q b → a
 one_answer (Spells source) (Is b) (Is c) h g = ap Is (one_spelled source b c h g)
 one_answer (Spells source) (Is b) (Places ms) h g = absurd g
 one_answer (Spells source) (Is b) (Texts xs) h g = absurd g
-one_answer (Spells source) (Is b) (Values vs) h g = absurd g
+one_answer (Spells source) (Is b) (These vs) h g = absurd g
 one_answer (Spells source) (Places ms) a h g = absurd h
 one_answer (Spells source) (Texts xs) a h g = absurd h
-one_answer (Spells source) (Values vs) a h g = absurd h
+one_answer (Spells source) (These vs) a h g = absurd h
 one_answer (Matches source text) (Is b) (Is c) h g = ap Is (one_test source text b c h g)
 one_answer (Matches source text) (Is b) (Places ms) h g = absurd g
 one_answer (Matches source text) (Is b) (Texts xs) h g = absurd g
-one_answer (Matches source text) (Is b) (Values vs) h g = absurd g
+one_answer (Matches source text) (Is b) (These vs) h g = absurd g
 one_answer (Matches source text) (Places ms) a h g = absurd h
 one_answer (Matches source text) (Texts xs) a h g = absurd h
-one_answer (Matches source text) (Values vs) a h g = absurd h
+one_answer (Matches source text) (These vs) a h g = absurd h
 one_answer (FindsIn source text all) (Places ms) (Places ns) h g = ap Places (one_found source text all ms ns h g)
 one_answer (FindsIn source text all) (Places ms) (Is b) h g = absurd g
 one_answer (FindsIn source text all) (Places ms) (Texts xs) h g = absurd g
-one_answer (FindsIn source text all) (Places ms) (Values vs) h g = absurd g
+one_answer (FindsIn source text all) (Places ms) (These vs) h g = absurd g
 one_answer (FindsIn source text all) (Is b) a h g = absurd h
 one_answer (FindsIn source text all) (Texts xs) a h g = absurd h
-one_answer (FindsIn source text all) (Values vs) a h g = absurd h
+one_answer (FindsIn source text all) (These vs) a h g = absurd h
 one_answer (Divides by text) (Texts xs) (Texts ys) h g = ap Texts (one_list by text xs ys h g)
 one_answer (Divides by text) (Texts xs) (Is b) h g = absurd g
 one_answer (Divides by text) (Texts xs) (Places ms) h g = absurd g
-one_answer (Divides by text) (Texts xs) (Values vs) h g = absurd g
+one_answer (Divides by text) (Texts xs) (These vs) h g = absurd g
 one_answer (Divides by text) (Is b) a h g = absurd h
 one_answer (Divides by text) (Places ms) a h g = absurd h
-one_answer (Divides by text) (Values vs) a h g = absurd h
-one_answer (Fields row) (Values vs) (Values ws) h g = ap Values (one_row row vs ws h g)
-one_answer (Fields row) (Values vs) (Is b) h g = absurd g
-one_answer (Fields row) (Values vs) (Places ms) h g = absurd g
-one_answer (Fields row) (Values vs) (Texts xs) h g = absurd g
+one_answer (Divides by text) (These vs) a h g = absurd h
+one_answer (Fields row) (These vs) (These ws) h g = ap These (one_row row vs ws h g)
+one_answer (Fields row) (These vs) (Is b) h g = absurd g
+one_answer (Fields row) (These vs) (Places ms) h g = absurd g
+one_answer (Fields row) (These vs) (Texts xs) h g = absurd g
 one_answer (Fields row) (Is b) a h g = absurd h
 one_answer (Fields row) (Places ms) a h g = absurd h
 one_answer (Fields row) (Texts xs) a h g = absurd h

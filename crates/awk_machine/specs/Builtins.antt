@@ -42,7 +42,7 @@ use Rattle.awk_machine.specs.Pieces.{Split, Close, Run, Then, Goes, Seeks, Asks,
 use Rattle.awk_machine.specs.Questions.{Finds, places}
 use Rattle.awk_machine.specs.Streams.{want}
 use Rattle.awk_machine.specs.Targets.{target, check_separator}
-use Rattle.awk_machine.specs.Variables.{own_text, with_own, with_array}
+use Rattle.awk_machine.specs.Variables.{own_text, by_convfmt, with_own, with_array}
 
 -- ---- what the values of plain arguments make
 
@@ -178,7 +178,9 @@ substitute place how x y r part (new ∷ pattern ∷ []) k s = Goes (spot r ∷ 
 substitute place how x y r part (at ∷ new ∷ pattern ∷ []) k s =
     Goes (checked x place (text_of pattern) (Do (Get (target r at)) ∷ At part (at ∷ new ∷ pattern ∷ []) ∷ k)) s
 substitute place how x y r part (old ∷ at ∷ new ∷ pattern ∷ vs) k s =
-    Goes (Do (Substitute place (target r at) (text_of pattern) (text_of new) (text_of old) (is_all how)) ∷ k) s
+    granted place (by_convfmt s old)
+    (λ shown k s. Goes (Do (Substitute place (target r at) (text_of pattern) (text_of new) (text_of shown)
+    (is_all how)) ∷ k) s) k s
 
 -- what was found is replaced, and the target is set where something was
 abbrev pub replace : Place → Target → (new old : Text) → List (ℕ × ℕ) → Then

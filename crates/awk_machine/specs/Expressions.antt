@@ -17,11 +17,11 @@ use Rattle.awk_machine.specs.Forms.{value, spot, source, answer, deliver, if_tru
 use Rattle.awk_machine.specs.Forms.{keyed, checked}
 use Rattle.awk_machine.specs.Getline.{getline, getline_file}
 use Rattle.awk_lib.specs.Arrays.{has}
-use Rattle.awk_machine.specs.Operators.{of_truth, of_count, computed, signed, stepped, compared, limited}
+use Rattle.awk_machine.specs.Operators.{of_truth, of_count, computed, signed, stepped, limited}
 use Rattle.awk_machine.specs.Pieces.{Part, Target_of, Terms_of, Texts_of, Ands_of, Ors_of, Members_of, Pipes_of, At, Do}
 use Rattle.awk_machine.specs.Pieces.{Get, Set, Check, Match, Give, Then, Goes, give, granted}
 use Rattle.awk_machine.specs.Targets.{target, field_of, store}
-use Rattle.awk_machine.specs.Variables.{array, by_convfmt}
+use Rattle.awk_machine.specs.Variables.{array, by_convfmt, compared_by}
 
 -- ---- what is read or set
 
@@ -111,8 +111,8 @@ step_value (p.signed place how x) part vs k s =
 step_value (p.as_text place x) part vs k s = unary (value x) part (λ y k s. deliver place (by_convfmt s y) k s) vs k s
 step_value (p.chain x xs) part vs k s = Goes (value x ∷ At (Terms_of xs) [] ∷ k) s
 step_value (p.concat x xs) part vs k s = Goes (value x ∷ At (Texts_of xs) [] ∷ k) s
-step_value (p.compare how x y) part vs k s =
-    binary (value x) (value y) part (λ z u k s. answer (compared s.numbers how z u) k s) vs k s
+step_value (p.compare place how x y) part vs k s =
+    binary (value x) (value y) part (λ z u k s. deliver place (compared_by s how z u) k s) vs k s
 step_value (p.matched place x y) part vs k s = binary (value x) (source y) part (matched place y) vs k s
 step_value (p.member x as_) part vs k s = Goes (value x ∷ At (Members_of as_) [] ∷ k) s
 step_value (p.group place xs as_) part vs k s =

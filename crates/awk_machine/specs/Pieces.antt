@@ -19,6 +19,7 @@ use Rattle.std.specs.Prelude.{Option, ℕ, Bool, List, [], ◌∷◌, Result, Ok
 use Rattle.awk_text.specs.declared.value.Value.{Value}
 use Rattle.awk_text.specs.declared.place.Place.{Place}
 use Rattle.awk_text.specs.declared.fault.Fault.{Fault}
+use Rattle.awk_fields.specs.Rows as row
 use Rattle.awk_fields.specs.Separators.{Separator}
 use Rattle.box_world.specs.declared.ask.Mode.{Mode}
 use Rattle.box_world.specs.declared.ask.Reply.{Reply}
@@ -82,7 +83,7 @@ pub data Task : Type 0 where
   Set : Target → Place → Value → Task
   -- `$0` is set to a text; the record has these fields now
   Whole : Place → Text → Task
-  Rebuild : Place → List Value → Task
+  Rebuild : Place → List row.Field → Task
   -- a text is an ERE; it matches somewhere; its first match; the matches are replaced in what the target holds
   Check : Place → Text → Task
   Match : (source text : Text) → Task

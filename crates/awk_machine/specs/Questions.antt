@@ -1,11 +1,10 @@
 -- What a run has to know of patterns and of fields, which is said by relations: a question, and its right answer
 -- (POSIX.1-2017 XBD 9.4; XCU awk, "Regular Expressions" and "Variables and Special Variables", FS).
 use Rattle.std.specs.Prelude.{Bool, true, false, List, [], ℕ}
-use Rattle.awk_text.specs.declared.value.Value.{Value}
 use Rattle.awk_ere.specs.Spelled.{HasMatch}
 use Rattle.awk_fields.specs.Separators.{Separator, IsEre, IsNoEre}
 use Rattle.awk_fields.specs.Fields as fields
-use Rattle.awk_fields.specs.Rows.{Row, HasFields}
+use Rattle.awk_fields.specs.Rows.{Field, Row, HasFields}
 use Rattle.awk_program.specs.Slots.{Text}
 use Rattle.awk_lib.specs.Replacing.{Found}
 
@@ -23,7 +22,7 @@ pub data Answer : Type 0 where
   Is : Bool → Answer
   Places : List (ℕ × ℕ) → Answer
   Texts : List Text → Answer
-  Values : List Value → Answer
+  These : List Field → Answer
 
 abbrev pub Right : Question → Answer → Type 0
 Right (Spells source) (Is true) = IsEre source
@@ -31,7 +30,7 @@ Right (Spells source) (Is false) = IsNoEre source
 Right (Matches source text) (Is b) = HasMatch source text b
 Right (Finds source text all) (Places ms) = Found source text all ms
 Right (Divides separator text) (Texts parts) = fields.Fields separator text parts
-Right (Fields row) (Values values) = HasFields row values
+Right (Fields row) (These found) = HasFields row found
 Right question answer = ⊥
 
 -- ---- what an answer says
@@ -48,6 +47,6 @@ abbrev pub texts : Answer → List Text
 texts (Texts parts) = parts
 texts answer = []
 
-abbrev pub values : Answer → List Value
-values (Values vs) = vs
-values answer = []
+abbrev pub these : Answer → List Field
+these (These found) = found
+these answer = []

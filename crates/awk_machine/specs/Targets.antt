@@ -11,7 +11,8 @@ use Rattle.awk_text.specs.declared.fault.Fault.TheVariants.{Pattern}
 use Rattle.awk_text.specs.Arithmetic.{whole_of}
 use Rattle.awk_text.specs.Values.{text_of, number_of}
 use Rattle.awk_fields.specs.Separators.{separator}
-use Rattle.awk_fields.specs.Rows.{unsplit, known, place_of, with_field, with_count, joined}
+use Rattle.awk_fields.specs.Rows as row
+use Rattle.awk_fields.specs.Rows.{unsplit, known, place_of, with_field, with_count, rebuilt, blank}
 use Rattle.awk_format.specs.Directives.{◌>>=◌}
 use Rattle.awk_program.specs.Slots.{Text}
 use Rattle.awk_program.specs.Program as p
@@ -19,8 +20,8 @@ use Rattle.awk_lib.specs.Arrays.{element, put}
 use Rattle.awk_machine.specs.Operators.{of_count, limited}
 use Rattle.awk_machine.specs.Pieces.{Piece, Do, Target, Variable, Element, Field, Give, Set, Whole, Rebuild, Check}
 use Rattle.awk_machine.specs.Pieces.{Then, Goes, Seeks, give, granted, ends, Faulted}
-use Rattle.awk_machine.specs.Questions.{Spells, Fields, yes, values}
-use Rattle.awk_machine.specs.Variables.{is_nf, own_text, variable, with_variable, array, with_array}
+use Rattle.awk_machine.specs.Questions.{Spells, Fields, yes, these}
+use Rattle.awk_machine.specs.Variables.{is_nf, own_text, by_convfmt, variable, with_variable, array, with_array}
 
 -- ---- the target that is meant
 
@@ -44,11 +45,11 @@ target (p.field place x) spot = Field (field_number spot)
 -- a field above the last one is unset
 abbrev pub get_field : ℕ → Then
 get_field zero k s = Goes (give (v.Input s.row.whole) k) s
-get_field (suc n) k s = Seeks (Fields s.row) (λ a. give (slice_index_or (values a) n v.Unset) k) s
+get_field (suc n) k s = Seeks (Fields s.row) (λ a. give (slice_index_or (these a) n blank).value k) s
 
 abbrev pub get_variable : p.Variable → Then
 get_variable a k s =
-    if is_nf a then Seeks (Fields s.row) (λ fields. give (of_count (length (values fields))) k) s
+    if is_nf a then Seeks (Fields s.row) (λ a. give (of_count (length (these a))) k) s
     else Goes (give (variable s a) k) s
 
 -- an element that is not there is made
@@ -75,20 +76,27 @@ check_separator place by k = if nat_lt 1 (length by) then Do (Check place by) �
 -- ---- setting
 
 -- the fields' texts with OFS between are the record's text
-abbrev pub rebuild : Place → List Value → Then
-rebuild place vs k s =
-    granted place (limited (joined (own_text s (codes "OFS")) vs))
-    (λ text k s. Goes k (record s { row = record { whole = text; fields = known vs } })) k s
+abbrev pub rebuild : Place → List row.Field → Then
+rebuild place fs k s =
+    granted place (limited (rebuilt (own_text s (codes "OFS")) fs))
+    (λ text k s. Goes k (record s { row = record { whole = text; fields = known fs } })) k s
 
--- to set `$0`, FS is looked at first
+-- `$0` is the text of the value, before which FS is looked at; another field is the value, and in the record's text
+-- that of it by CONVFMT
+abbrev pub set_shown : ℕ → Place → (x shown : Value) → Then
+set_shown zero place x shown k s =
+    Goes (check_separator place (own_text s (codes "FS")) (Do (Whole place (text_of shown)) ∷ k)) s
+set_shown (suc n) place x shown k s =
+    Seeks (Fields s.row)
+    (λ a. Do (Rebuild place (with_field (these a) n (record { value = x; shown = shown }))) ∷ k) s
+
 abbrev pub set_field : ℕ → Place → Value → Then
-set_field zero place x k s = Goes (check_separator place (own_text s (codes "FS")) (Do (Whole place (text_of x)) ∷ k)) s
-set_field (suc n) place x k s = Seeks (Fields s.row) (λ a. Do (Rebuild place (with_field (values a) n x)) ∷ k) s
+set_field n place x k s = granted place (by_convfmt s x) (set_shown n place x) k s
 
 abbrev pub set_nf : Place → Value → Then
 set_nf place x k s =
     granted place (number_of s.numbers x >>= λ y. whole_of y >>= place_of)
-    (λ n k s. Seeks (Fields s.row) (λ a. Do (Rebuild place (with_count (values a) n)) ∷ k) s) k s
+    (λ n k s. Seeks (Fields s.row) (λ a. Do (Rebuild place (with_count (these a) n)) ∷ k) s) k s
 
 abbrev pub set : Target → Place → Value → Then
 set (Variable a) place x k s = if is_nf a then set_nf place x k s else Goes k (with_variable a x s)
@@ -100,15 +108,19 @@ abbrev pub as_number : Result ℤ Fault → Value
 as_number (Ok n) = v.Num n
 as_number (Err fault) = v.Unset
 
-abbrev pub stored : Numbers → Target → Value → Value
-stored numbers (Variable a) x = if is_nf a then as_number (number_of numbers x >>= whole_of) else x
-stored numbers (Element a key at) x = x
-stored numbers (Field zero) x = v.Input (text_of x)
-stored numbers (Field (suc n)) x = x
+abbrev pub as_input : Result Value Fault → Value
+as_input (Ok x) = v.Input (text_of x)
+as_input (Err fault) = v.Unset
+
+abbrev pub stored : State → Target → Value → Value
+stored s (Variable a) x = if is_nf a then as_number (number_of s.numbers x >>= whole_of) else x
+stored s (Element a key at) x = x
+stored s (Field zero) x = as_input (by_convfmt s x)
+stored s (Field (suc n)) x = x
 
 -- a value is stored, and given
 abbrev pub store : Target → Place → Value → Then
-store to place x k s = Goes (Do (Set to place x) ∷ Do (Give (stored s.numbers to x)) ∷ k) s
+store to place x k s = Goes (Do (Set to place x) ∷ Do (Give (stored s to x)) ∷ k) s
 
 -- ---- the whole record
 

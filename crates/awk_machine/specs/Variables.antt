@@ -1,15 +1,19 @@
 -- What variables hold: those of the whole script go by their names, and parameters by their places
 -- (POSIX.1-2017 XCU awk, "User-Defined Functions", "Variables and Special Variables").
 use Rattle.std.specs.Prelude.{Bool, false, if◌then◌else◌, [], codes, slice_get, slice_index_or, slice_set, Option, Some}
-use Rattle.std.specs.Prelude.{None, unwrap_or, option_map, Result}
+use Rattle.std.specs.Prelude.{None, unwrap_or, option_map, Result, Ok}
 use Rattle.std.specs.Str.{bytes_eq}
+use Rattle.awk_numbers.specs.declared.number.Number.{Number}
 use Rattle.awk_text.specs.declared.value.Value.{Value}
 use Rattle.awk_text.specs.declared.value.Value.TheVariants as v
 use Rattle.awk_text.specs.declared.fault.Fault.{Fault}
-use Rattle.awk_text.specs.Values.{text_of}
+use Rattle.awk_text.specs.Values.{numeric, text_of}
+use Rattle.awk_format.specs.Directives.{◌>>=◌}
 use Rattle.awk_format.specs.NumberTexts.{value_by}
 use Rattle.awk_program.specs.Slots.{Text}
 use Rattle.awk_program.specs.Program.{Variable, global, parameter}
+use Rattle.awk_program.specs.declared.operators.Comparison.{Comparison}
+use Rattle.awk_machine.specs.Operators.{compared}
 use Rattle.awk_machine.specs.State.{Array, State, Bound, Scalar, Handed, Reference, Shared, Made}
 
 -- another map, in which a name that was there has this; a name that was not there stays without
@@ -33,6 +37,16 @@ own_text s name = text_of (own_value s name)
 -- a value of which a text is wanted: of a number with a fraction the text that CONVFMT makes of it now
 abbrev pub by_convfmt : State → Value → Result Value Fault
 by_convfmt s x = value_by s.numbers (own_text s (codes "CONVFMT")) x
+
+-- a value that is compared with another one: its text is wanted where that is no number
+abbrev pub beside : State → Option Number → Value → Result Value Fault
+beside s (Some n) x = Ok x
+beside s None x = by_convfmt s x
+
+abbrev pub compared_by : State → Comparison → Value → Value → Result Value Fault
+compared_by s how x y =
+    beside s (numeric s.numbers y) x >>= λ a. beside s (numeric s.numbers x) y
+    >>= λ b. Ok (compared s.numbers how a b)
 
 abbrev pub bound_value : Bound → Value
 bound_value (Scalar v) = v

@@ -38,7 +38,7 @@ mutual
     as_text : Place → Expression → Expression
     chain : Expression → Terms → Expression
     concat : Expression → Joins → Expression
-    compare : Comparison → Expression → Expression → Expression
+    compare : Place → Comparison → Expression → Expression → Expression
     matched : Place → Expression → Ere → Expression
     member : Expression → List Variable → Expression
     group : Place → Expressions → List Variable → Expression

@@ -84,7 +84,8 @@ pub enum Expr {
     Chain(Boxed<Expr>, Items<Term<Expr>>),
     /// Operands one directly after the other
     Concat(Boxed<Expr>, Items<Joined<Expr>>),
-    Compare(Comparison, Boxed<Expr>, Boxed<Expr>),
+    /// `left < right`, and the other comparisons
+    Compare(Place, Comparison, Boxed<Expr>, Boxed<Expr>),
     /// `text ~ pattern`
     Match(Place, Boxed<Expr>, Pattern<Expr>),
     /// `key in array in array ..`
