@@ -36,7 +36,9 @@ fn expression_of_parts(context: Printing<'_>, e: &Expr, out: &mut Page) {
         Expr::AsText(q, x) => at_one(context, "text", *q, x.get(), out),
         Expr::Chain(x, xs) => chain(context, x.get(), xs.as_slice(), out),
         Expr::Concat(x, xs) => concat(context, x.get(), xs.as_slice(), out),
-        Expr::Compare(how, x, y) => { two(context, comparison_text(*how), x.get(), y.get(), out) }
+        Expr::Compare(q, how, x, y) => {
+            at_two(context, comparison_text(*how), *q, x.get(), y.get(), out)
+        }
         Expr::Match(q, x, y) => at_match(context, "~", *q, x.get(), y, out),
         Expr::In(x, vs) => member(context, x.get(), vs.as_slice(), out),
         Expr::Group(q, xs, vs) => group(context, *q, xs.as_slice(), vs.as_slice(), out),
@@ -83,15 +85,6 @@ fn one(context: Printing<'_>, head: &str, x: &Expr, out: &mut Page) {
     close(out)
 }
 
-/// A form of two expressions.
-#[cycle(expression)]
-fn two(context: Printing<'_>, head: &str, x: &Expr, y: &Expr, out: &mut Page) {
-    open(head, out);
-    expression(context, x, out);
-    expression(context, y, out);
-    close(out)
-}
-
 /// `test ? then : else`
 #[cycle(expression)]
 fn choice(context: Printing<'_>, x: &Expr, y: &Expr, z: &Expr, out: &mut Page) {
@@ -107,6 +100,15 @@ fn choice(context: Printing<'_>, x: &Expr, y: &Expr, z: &Expr, out: &mut Page) {
 pub fn at_one(context: Printing<'_>, head: &str, q: Place, x: &Expr, out: &mut Page) {
     open_at(head, q, out);
     expression(context, x, out);
+    close(out)
+}
+
+/// A form of a place and two expressions.
+#[cycle(expression)]
+fn at_two(context: Printing<'_>, head: &str, q: Place, x: &Expr, y: &Expr, out: &mut Page) {
+    open_at(head, q, out);
+    expression(context, x, out);
+    expression(context, y, out);
     close(out)
 }
 

@@ -10,14 +10,14 @@ decreases-expression_of_parts l = 7 + 16 * l.context.level
 abbrev pub decreases-one : goal.decreases-one
 decreases-one l = 1 + 16 * l.context.level
 
-abbrev pub decreases-two : goal.decreases-two
-decreases-two l = 1 + 16 * l.context.level
-
 abbrev pub decreases-choice : goal.decreases-choice
 decreases-choice l = 1 + 16 * l.context.level
 
 abbrev pub decreases-at_one : goal.decreases-at_one
 decreases-at_one l = 1 + 16 * l.context.level
+
+abbrev pub decreases-at_two : goal.decreases-at_two
+decreases-at_two l = 1 + 16 * l.context.level
 
 abbrev pub decreases-ere : goal.decreases-ere
 decreases-ere l = 1 + 16 * l.context.level
