@@ -8,7 +8,6 @@ use Rattle.awk_tree.specs.Tree.{Text}
 use Rattle.awk_tree.specs.declared.names.Name.{Name}
 use Rattle.awk_tree.specs.declared.operators.Arithmetic.TheVariants as arithmetic
 use Rattle.awk_tree.specs.declared.operators.Comparison.TheVariants as tree_comparison
-use Rattle.awk_tokens.specs.declared.terminals.Assignment.{Assignment}
 use Rattle.awk_tokens.specs.declared.terminals.Assignment.TheVariants as assignment
 use Rattle.awk_tree.specs.declared.operators.Sign.TheVariants as tree_sign
 use Rattle.awk_tokens.specs.declared.words.Builtin.TheVariants as b
@@ -23,7 +22,6 @@ use Rattle.awk_program.specs.Program as p
 use Rattle.awk_program.specs.Program.{Expression}
 use Rattle.awk_lowering.specs.Lowered.{lowered}
 use Rattle.awk_lowering.specs.Scopes.{Scope}
-use Rattle.awk_lowering.specs.Texts.{set_to}
 
 abbrev at : ℕ → Place
 at n = record { line = 1; column = n }
@@ -125,31 +123,10 @@ row_matched : lowered of_doubles (t.matched (t.name (name 1 (codes "x"))) (at 3)
     ≡ p.matched (at 3) (x_text 3) (p.computed (x_text 3))
 row_matched = refl
 
--- x == "b", x "" < x, and x < x
-row_beside : lowered of_doubles (t.compare (t.name (name 1 (codes "x"))) (at 3) tree_comparison.Equal
-    (t.quoted (at 6) (codes "b"))) ≡ p.compare comparison.Equal (x_text 3) (p.text (codes "b"))
-row_beside = refl
-
-row_behind : lowered of_doubles (t.compare (t.concat (t.name (name 1 (codes "x"))) (t.more (t.quoted (at 3) []) t.none))
+-- x "" < x: an operand of a comparison is not marked, and a concatenation in it marks its own
+row_compared : lowered of_doubles (t.compare
+    (t.concat (t.name (name 1 (codes "x"))) (t.more (t.quoted (at 3) []) t.none))
     (at 6) tree_comparison.Less (t.name (name 8 (codes "x"))))
-    ≡ p.compare comparison.Less (p.concat (x_text 1) (p.join (at 3) (p.text []) p.no_joins)) (x_text 6)
-row_behind = refl
-
-row_numbers : lowered of_doubles (t.compare (t.name (name 1 (codes "x"))) (at 3) tree_comparison.Less
-    (t.name (name 5 (codes "x"))))
-    ≡ p.compare comparison.Less (p.read (p.variable (p.parameter 0))) (p.read (p.variable (p.parameter 0)))
-row_numbers = refl
-
--- $0 = x, $1 = x and $0 += x: what is set
-abbrev x_set : Assignment → ℕ → Expression
-x_set how n = set_to profile.Double (at 4) how (p.field (at 1) (p.number (Whole (pos n))))
+    ≡ p.compare (at 6) comparison.Less (p.concat (x_text 1) (p.join (at 3) (p.text []) p.no_joins))
     (p.read (p.variable (p.parameter 0)))
-
-row_record : x_set assignment.Set 0 ≡ x_text 4
-row_record = refl
-
-row_field : x_set assignment.Set 1 ≡ p.read (p.variable (p.parameter 0))
-row_field = refl
-
-row_added : x_set assignment.Add 0 ≡ p.read (p.variable (p.parameter 0))
-row_added = refl
+row_compared = refl

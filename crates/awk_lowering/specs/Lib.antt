@@ -2,7 +2,6 @@ pub mod Scopes
 pub mod Starts
 pub mod Forms
 pub mod Texts
-pub mod Told
 pub mod Lowered
 pub mod OneByOne
 pub mod LoweredStatements

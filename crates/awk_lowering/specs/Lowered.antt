@@ -32,7 +32,7 @@ use Rattle.awk_lowering.specs.Forms.{step_of, extent_of, signed_of, assigned, ne
 use Rattle.awk_lowering.specs.Forms.{called}
 use Rattle.awk_lowering.specs.Scopes.{Scope, variable, function, arrays_of, is_array}
 use Rattle.awk_lowering.specs.Starts.{start}
-use Rattle.awk_lowering.specs.Texts.{textual, textuals, first_textuals, texts_wanted, compared, set_to}
+use Rattle.awk_lowering.specs.Texts.{textual, textuals, first_textuals, texts_wanted}
 
 -- the arrays behind `in`
 abbrev pub array_in : Scope → Member → Variable
@@ -143,7 +143,7 @@ abbrev mutual
   lowered c (t.sum x xs) = p.chain (lowered c x) (lowered_terms c xs)
   lowered c (t.concat x xs) = p.concat (textual c.numbers (start x) (lowered c x)) (lowered_joins c xs)
   lowered c (t.pipe x xs) = p.pipe (textual c.numbers (start x) (lowered c x)) (lowered_pipes c xs)
-  lowered c (t.compare x q how y) = compared c.numbers q (comparison_of how) (lowered c x) (lowered c y)
+  lowered c (t.compare x q how y) = p.compare q (comparison_of how) (lowered c x) (lowered c y)
   lowered c (t.matched x q unlike y) = negated unlike
       (p.matched q (textual c.numbers q (lowered c x)) (ere_of (constant y) (textual c.numbers q (lowered c y))))
   lowered c (t.group q xs ms) =
@@ -152,8 +152,7 @@ abbrev mutual
   lowered c (t.and x xs) = p.and (lowered c x) (lowered_list c xs)
   lowered c (t.or x xs) = p.or (lowered c x) (lowered_list c xs)
   lowered c (t.choose x y z) = p.choose (lowered c x) (lowered c y) (lowered c z)
-  lowered c (t.assign x q how y) =
-      assigned q how (target c x) (set_to c.numbers q how (target c x) (lowered c y))
+  lowered c (t.assign x q how y) = assigned q how (target c x) (lowered c y)
 
   -- what is set: the grammar puts nothing but these three before `=` and beside `++`
   pub target : Scope → Tree → Reference

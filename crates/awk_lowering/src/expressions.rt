@@ -18,12 +18,13 @@ use crate::constants::{number, pattern, quoted};
 use crate::kept::{boxed, kept, opened, push, room};
 use crate::names::{Lowering, arrays_in, arrays_of, function, variable};
 use crate::nodes::{
-    and_of, builtin_of, call_of, chain_of, choose_of, concat_of, count_of, getline_file_of,
-    getline_of, group_of, locate_of, match_of, member_of, or_of, pipe_of, read_of, split_of,
-    step_of, substitute_of,
+    and_of, builtin_of, call_of, chain_of, choose_of, compare_of, concat_of, count_of,
+    getline_file_of, getline_of, group_of, locate_of, match_of, member_of, or_of, pipe_of, read_of,
+    split_of, step_of, substitute_of,
 };
 use crate::operators::{
-    comparison, extent, negated, plain_builtin, record_length, signed_of, step, without_arguments,
+    assign_of, comparison, extent, negated, plain_builtin, record_length, signed_of, step,
+    without_arguments,
 };
 use crate::parts::{argument_of, given, join_of, piped_of, power_of, term_of};
 use crate::shapes::{bare, constant, counted, first_behind, first_in, later, start, takes_array};
@@ -31,7 +32,7 @@ use crate::targets::{
     computed_of, constant_of, element_of, field_of, field_separator, record_of, unwritten,
     variable_of, zero,
 };
-use crate::texts::{compared_of, set_of, text_at, text_of, texts_wanted};
+use crate::texts::{text_at, text_of, texts_wanted};
 use awk_program::{Argument, Builtin, Expr, Joined, Pattern, Piped, StepValue, Target, Term};
 use awk_text::Memory;
 use awk_text::place::Place;
@@ -105,7 +106,7 @@ pub fn expression(context: &Lowering<'_>, e: &awk_tree::Expr, level: u32) -> Res
         awk_tree::Expr::Compare(x, place, how, y) => {
             let x = part(context, x.get(), below);
             let y = part(context, y.get(), below);
-            compared_of(context, *place, comparison(*how), x, y)
+            compare_of(*place, comparison(*how), x, y)
         }
         awk_tree::Expr::Match(x, place, unlike, y) => {
             let x = text(context, *place, x.get(), below);
@@ -136,7 +137,7 @@ pub fn expression(context: &Lowering<'_>, e: &awk_tree::Expr, level: u32) -> Res
         }
         awk_tree::Expr::Assign(x, place, how, y) => {
             let x = target(context, x.get(), below);
-            set_of(context, *place, *how, x, part(context, y.get(), below))
+            assign_of(*place, *how, x, part(context, y.get(), below))
         }
     }
 }

@@ -83,14 +83,16 @@ pub fn concat_of(
 
 /// A comparison
 pub fn compare_of(
+    place: Place,
     how: Comparison,
     x: Result<Boxed<Expr>, Memory>,
     y: Result<Boxed<Expr>, Memory>,
 ) -> Result<Expr, Memory>
-    ensures { (t : Names) (a : Expression) (b : Expression) → Is t x a → Is t y b → Is t result (p.compare how a b) }
+    ensures { (t : Names) (a : Expression) (b : Expression) → Is t x a → Is t y b →
+        Is t result (p.compare place how a b) }
 {
     match both(x, y) {
-        Ok((x, y)) => Ok(Expr::Compare(how, x, y)),
+        Ok((x, y)) => Ok(Expr::Compare(place, how, x, y)),
         Err(refused) => Err(refused),
     }
 }

@@ -125,7 +125,7 @@ pub expression-returns-in-Compare : goal.expression-returns-in-Compare
 expression-returns-in-Compare t c =
     let x = rw c.get-in-Compare.ensures at c.part-x-in-Compare.ensures in
     let y = rw c.get-in-Compare-2.ensures at c.part-y.ensures in
-    rw (c.in-Compare.is, view-Compare, ← c.comparison.ensures) (c.compared_of.ensures _ _ x y)
+    rw (c.in-Compare.is, view-Compare, ← c.comparison.ensures) (c.compare_of.ensures _ _ _ x y)
 
 pub expression-returns-in-Match : goal.expression-returns-in-Match
 expression-returns-in-Match t c =
@@ -169,7 +169,7 @@ pub expression-returns-in-Assign : goal.expression-returns-in-Assign
 expression-returns-in-Assign t c =
     let x = rw c.get-in-Assign.ensures at c.target-x-in-Assign.ensures in
     let y = rw c.get-in-Assign-2.ensures at c.part-in-Assign.ensures in
-    rw (c.in-Assign.is, view-Assign) (c.set_of.ensures _ _ x y)
+    rw (c.in-Assign.is, view-Assign) (c.assign_of.ensures _ _ _ x y)
 
 pub part-returns : goal.part-returns
 part-returns t c =
