@@ -24,7 +24,7 @@ pub fn is_usual(numbers: Numbers, format: &[u8]) -> bool
 {
     match numbers {
         Numbers::Whole => true,
-        Numbers::Double => format == b"%.6g".as_slice(),
+        Numbers::Double => matches!(format, [b'%', b'.', b'6', b'g']),
     }
 }
 

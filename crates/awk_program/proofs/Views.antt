@@ -135,10 +135,10 @@ pub view-Concat : (t : Names) (x : Expr) (xs : List (Joined Expr)) → view t (e
 unfolding layer
 view-Concat t x xs = opened t _ _ (e.rolls-Concat x xs)
 
-pub view-Compare : (t : Names) (how : Comparison) (x : Expr) (y : Expr) → view t (e.Compare how x y) ≡ p.compare how
-    (view t x) (view t y)
+pub view-Compare : (t : Names) (q : Place) (how : Comparison) (x : Expr) (y : Expr) → view t (e.Compare q how x y)
+    ≡ p.compare q how (view t x) (view t y)
 unfolding layer
-view-Compare t how x y = opened t _ _ (e.rolls-Compare how x y)
+view-Compare t q how x y = opened t _ _ (e.rolls-Compare q how x y)
 
 pub view-Match : (t : Names) (q : Place) (x : Expr) (y : Pattern Expr) → view t (e.Match q x y) ≡ p.matched q (view t x)
     (view_ere t y)
