@@ -14,7 +14,7 @@ use Rattle.awk_text.specs.Values.{number_of, numeric, of_number, text_of, truth}
 use Rattle.awk_text.specs.declared.place.Place.{Place}
 use Rattle.awk_text.specs.declared.value.Value.{Value}
 use Rattle.awk_text.specs.declared.value.Value.TheVariants as v
-use Rattle.awk_fields.specs.Rows.{HasFields, IsKept, IsValueAt}
+use Rattle.awk_fields.specs.Rows.{Field, HasFields, IsKept, IsValueAt}
 use Rattle.awk_format.specs.Formatted.{within}
 use Rattle.awk_lib.specs.Arrays.{element}
 use Rattle.awk_lib.specs.Written.{written}
@@ -56,11 +56,6 @@ nil_right (x ∷ xs) = ap (λ ys. x ∷ ys) (nil_right xs)
 pub on : {g : Given} {p q : Piece} {old mid new : Whole} {to then_ : List Piece → List Piece}
     → Passes g p old (λ k. q ∷ to k) mid → Passes g q mid then_ new → Passes g p old (λ k. then_ (to k)) new
 on {then_ = then_} h m = doing (tt {0}) h (done {on = λ (u : Unit {0}). then_} m) refl
-
--- what counts as a number is compared as one
-alike : (numbers : Numbers) (how : Comparison) (a b : ℤ) (val : Value) → numeric numbers val ≡ Some (number.Whole b)
-    → compared numbers how (v.Num a) val ≡ compared numbers how (v.Num a) (v.Num b)
-alike numbers how a b val e = rw e refl
 
 module _ (g : Given) (w : Whole) where
   -- ---- what is read or set
@@ -104,7 +99,7 @@ module _ (g : Given) (w : Whole) where
   variable_there x n = reads (p.variable (variable_of (names_in g) x)) v.Unset (kept.value w.0 x) (variable_spot x)
       (reads_variable g w x n)
 
-  pub nf_there : (x : Variable) (n : ℤ) → kept.is_nf x ≡ true → (vs : List Value) × HasFields w.0.row vs
+  pub nf_there : (x : Variable) (n : ℤ) → kept.is_nf x ≡ true → (vs : List Field) × HasFields w.0.row vs
       × (n ≡ pos (length vs)) → Passes g (value (p.read (p.variable (variable_of (names_in g) x)))) w (give (v.Num n)) w
   nf_there x n y h = reads (p.variable (variable_of (names_in g) x)) v.Unset (v.Num n) (variable_spot x)
       (counted_nf g w x w.0 n y refl (inl refl) h)
@@ -124,21 +119,6 @@ module _ (g : Given) (w : Whole) where
   field_there place e sub n val h is fits at =
       reads (p.field place e) (v.Num (pos n)) val (field_spot place e sub n h is fits)
       (reads_field g w n w.0 val fits refl (inl refl) (n, small n fits, at))
-
-  pub comparison_there : (how : _) (x y : Expression) (a b : Value) → Passes g (value x) w (give a) w
-      → Passes g (value y) w (give b) w → Passes g (value (p.compare how x y)) w (give (compared w.0.numbers how a b)) w
-  comparison_there how x y a b h m =
-      let part : Part = Value_of (p.compare how x y) in
-      moves (on (moves {then_ = λ k. value y ∷ At part (a ∷ []) ∷ k}
-      (on (moves {then_ = λ k. value x ∷ At part [] ∷ k} (at_rest _ w) (λ k hid d a. refl)) h) (λ k hid d a. refl))
-      m) (λ k hid d a. refl)
-
-  pub numbers_compared : (how : Comparison) (x y : Expression) (a b : ℤ) (val : Value)
-      → Passes g (value x) w (give (v.Num a)) w → Passes g (value y) w (give val) w →
-      numeric w.0.numbers val ≡ Some (number.Whole b)
-      → Passes g (value (p.compare how x y)) w (give (compared w.0.numbers how (v.Num a) (v.Num b))) w
-  numbers_compared how x y a b val h m is = rw (alike w.0.numbers how a b val is) at
-      (comparison_there how x y (v.Num a) val h m)
 
   -- ---- chains
 

@@ -14,6 +14,7 @@ pub mod Printed
 pub mod Replaced
 pub mod Rests
 pub mod SearchSteps
+pub mod Comparing
 pub mod Convfmt
 pub mod SplitSteps
 pub mod Stored

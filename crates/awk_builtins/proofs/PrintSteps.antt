@@ -24,7 +24,7 @@ use Rattle.awk_builtins.proofs.Lines.{joined_one}
 abbrev values_ok : List Value → Result (List Value) Fault
 values_ok vs = Ok vs
 
-then_same : {A B : Type 0} (r : Result A Fault) (f h : A → Result B Fault) → ((x : A) → f x ≡ h x)
+pub then_same : {A B : Type 0} (r : Result A Fault) (f h : A → Result B Fault) → ((x : A) → f x ≡ h x)
     → (r >>= f) ≡ (r >>= h)
 then_same (Ok x) f h e = e x
 then_same (Err fault) f h e = refl

@@ -13,5 +13,5 @@ unary_of (one.AsText place) x = p.as_text place x
 unary_of (one.Builtin place which) x = p.builtin place which (p.more x p.none)
 
 abbrev pub binary_of : Binary → Expression → Expression → Expression
-binary_of (two.Compare how) x y = p.compare how x y
+binary_of (two.Compare place how) x y = p.compare place how x y
 binary_of (two.Builtin place which) x y = p.builtin place which (p.more x (p.more y p.none))

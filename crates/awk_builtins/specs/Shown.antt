@@ -1,20 +1,28 @@
--- The texts that CONVFMT makes of values, as the store has them (POSIX.1-2017 XCU awk, "Expressions in awk", "Formatted
--- Output").
-use Rattle.std.specs.Prelude.{List, drop, Result, Ok}
-use Rattle.awk_text.specs.Values.{text_of}
+-- What goes by CONVFMT, as the store has it (POSIX.1-2017 XCU awk, "Expressions in awk", "Formatted Output").
+use Rattle.std.specs.Prelude.{List, drop, Option, Some, None, Result, Ok}
+use Rattle.awk_numbers.specs.declared.number.Number.{Number}
+use Rattle.awk_text.specs.Values.{numeric, text_of}
 use Rattle.awk_text.specs.declared.fault.Fault.{Fault}
 use Rattle.awk_text.specs.declared.value.Value.{Value}
 use Rattle.awk_text.specs.declared.value.Value.TheVariants as v
 use Rattle.awk_format.specs.Directives.{◌>>=◌}
-use Rattle.awk_format.specs.NumberTexts.{formatted_with, value_by}
+use Rattle.awk_format.specs.NumberTexts.{formatted_with}
 use Rattle.awk_program.specs.Slots.{Text}
+use Rattle.awk_program.specs.declared.operators.Comparison.{Comparison}
 use Rattle.awk_program.specs.declared.variables.Own.TheVariants as own
 use Rattle.awk_machine.specs.Builtins.{first}
-use Rattle.awk_store.specs.Kept.{Kept, own_text}
+use Rattle.awk_machine.specs.Operators.{compared}
+use Rattle.awk_store.specs.Kept.{Kept, by_convfmt, own_text}
 
--- of an operand of which a text is wanted
-abbrev pub by_convfmt : Kept → Value → Result Value Fault
-by_convfmt kept x = value_by kept.numbers (own_text kept own.Convfmt) x
+-- a value that is compared with another one: its text is wanted where that is no number
+abbrev pub beside : Kept → Option Number → Value → Result Value Fault
+beside kept (Some n) x = Ok x
+beside kept None x = by_convfmt kept x
+
+abbrev pub compared_by : Kept → Comparison → Value → Value → Result Value Fault
+compared_by kept how x y =
+    beside kept (numeric kept.numbers y) x >>= λ a. beside kept (numeric kept.numbers x) y
+    >>= λ b. Ok (compared kept.numbers how a b)
 
 -- the text that printf and sprintf make: the first value is the format
 abbrev pub formatted_by : Kept → List Value → Result Text Fault

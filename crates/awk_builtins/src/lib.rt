@@ -11,6 +11,7 @@ pub mod arrays;
 pub mod at_hand;
 pub mod cache;
 pub mod chains;
+pub mod comparisons;
 pub mod functions;
 pub mod keys;
 pub mod line;

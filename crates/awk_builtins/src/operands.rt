@@ -8,12 +8,13 @@ ghost use Rattle.awk_streams.specs.Chains.{Meets};
 ghost use Rattle.awk_streams.specs.Tasks.{Owns};
 ghost use Rattle.std.specs.Prelude.{[], ◌∷◌};
 
+use crate::comparisons::compared;
 use crate::functions::called;
 use crate::made::number_at;
-use crate::operators::{compared, signed, truth_value};
-use crate::shown::as_text;
+use crate::operators::{signed, truth_value};
 use awk_program::{Builtin, Comparison, Sign};
 use awk_store::Store;
+use awk_store::shown::as_text;
 use awk_streams::halt::{Halt, at};
 use awk_streams::streams::Streams;
 use awk_text::place::Place;
@@ -38,7 +39,7 @@ pub enum Unary {
 #[derive(Clone, Copy, PartialEq, Eq, Drop)]
 pub enum Binary {
     /// `left < right`, and the other comparisons
-    Compare(Comparison),
+    Compare(Place, Comparison),
     /// A built-in function of two arguments
     Builtin(Place, Builtin),
 }
@@ -88,7 +89,10 @@ impl Binary {
         ensures owns { Owns (W.open_numbers world.new) streams.new }
     {
         match self {
-            Binary::Compare(how) => Ok(truth_value(compared(store.numbers(), how, &left, &right))),
+            Binary::Compare(place, how) => {
+                let holds = at(place, compared(alloc, store, how, left, right))?;
+                Ok(truth_value(holds))
+            }
             Binary::Builtin(place, which) => {
                 called(alloc, store, place, which, &[left, right], streams, world)
             }

@@ -103,8 +103,8 @@ pub fn compared_numbers(how: Comparison, left: i64, right: i64) -> bool
     holds(how, left.cmp(&right))
 }
 
-/// Whether the comparison holds of two values, by the profile. Takes no memory.
-pub fn compared(numbers: Numbers, how: Comparison, left: &Value, right: &Value) -> bool
+/// Whether the comparison holds of two values as they are, by the profile. Takes no memory.
+pub fn compared_values(numbers: Numbers, how: Comparison, left: &Value, right: &Value) -> bool
     ensures { of_truth result ≡ spec.compared numbers how left.now right.now }
 {
     if let (Value::Num(first), Value::Num(second)) = (left, right) {
@@ -113,7 +113,7 @@ pub fn compared(numbers: Numbers, how: Comparison, left: &Value, right: &Value) 
     holds(how, compare(numbers, left, right))
 }
 
-/// Whether the comparison holds of two values that are lent, by the profile. Takes no memory.
+/// Whether the comparison holds of two values that are lent, as they are, by the profile. Takes no memory.
 #[inline(always)]
 pub fn compared_lent<'a>(numbers: Numbers, how: Comparison, left: Lent<'a>, right: Lent<'a>) -> bool
     ensures { of_truth result ≡ spec.compared numbers how (lent_value left.entry) (lent_value right.entry) }

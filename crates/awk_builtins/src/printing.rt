@@ -26,12 +26,12 @@ ghost use Rattle.std.specs.Prelude.{◌⊎◌};
 
 use crate::line::Line;
 use crate::made::text_at;
-use crate::shown::is_usual_by;
 use awk_format::format;
 use awk_format::number_texts::{all_shown, format_with, is_usual};
 use awk_numbers::number::Numbers;
 use awk_program::{Own, Redirection};
 use awk_store::Store;
+use awk_store::shown::is_usual_by;
 use awk_streams::halt::{Halt, at};
 use awk_text::buffer::Buffer;
 use awk_text::fault::Fault;

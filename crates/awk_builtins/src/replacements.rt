@@ -20,6 +20,7 @@ use crate::patterns::{PatternValue, used};
 use awk_ere::Ere;
 use awk_lib::replace_any;
 use awk_program::Extent;
+use awk_store::shown::as_text;
 use awk_store::targets::{lent, read, set};
 use awk_store::{Spot, Store};
 use awk_streams::halt::{Halt, at};
@@ -111,13 +112,14 @@ fn replaced_in(
         return replaced(alloc, place, ere, new, old, is_all(extent));
     }
     let old = read(store, target)?;
+    let shown = at(place, as_text(alloc, store, old))?;
     let mut digits = Buffer::new();
     replaced(
         alloc,
         place,
         ere,
         new,
-        text_in(&old, &mut digits),
+        text_in(&shown, &mut digits),
         is_all(extent),
     )
 }

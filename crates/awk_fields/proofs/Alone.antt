@@ -4,12 +4,10 @@ use Rattle.std.proofs.Common.{subst, arith}
 use Rattle.std.specs.Prelude.{Some, None}
 use Rattle.awk_ere.specs.Best.{Best}
 use Rattle.awk_ere.proofs.Alone.{one_match, one_pattern}
-use Rattle.awk_text.specs.declared.value.Value.{Value}
-use Rattle.awk_text.specs.declared.value.Value.TheVariants.{Input}
 use Rattle.awk_fields.specs.Fields.{FindsSeparator, Separators, Parts, behind, no_more, passed, then_one, between}
 use Rattle.awk_fields.specs.Fields.{separating}
 use Rattle.awk_fields.specs.Laws.{OneList, OneRow, KeptAgain, KeptFields}
-use Rattle.awk_fields.specs.Rows.{Held, unsplit, known, Row, AreHeld, HasFields, IsKept}
+use Rattle.awk_fields.specs.Rows.{Field, Held, unsplit, known, Row, AreHeld, HasFields, IsKept, input}
 use Rattle.awk_fields.specs.Separators.{Separator, blanks, nothing, byte, ere}
 use Rattle.awk_fields.proofs.Bests.{match_le}
 
@@ -72,29 +70,29 @@ pub one_list : OneList
 one_list by [] xs ys h g = h ∙ sym g
 one_list by (b ∷ s) xs ys h g = one_parts by (b ∷ s) xs ys h g
 
-one_held : (whole : List ℕ) (held : Held) (vs ws : List Value) → AreHeld whole held vs → AreHeld whole held ws → vs ≡ ws
-one_held whole (unsplit by) vs ws (xs, h, e) (ys, g, d) = e ∙ ap (map Input) (one_list by whole xs ys h g) ∙ sym d
-one_held whole (known found) vs ws h g = h ∙ sym g
+one_held : (whole : List ℕ) (held : Held) (fs gs : List Field) → AreHeld whole held fs → AreHeld whole held gs → fs ≡ gs
+one_held whole (unsplit by) fs gs (xs, h, e) (ys, g, d) = e ∙ ap (map input) (one_list by whole xs ys h g) ∙ sym d
+one_held whole (known found) fs gs h g = h ∙ sym g
 
 pub one_row : OneRow
-one_row row vs ws h g = one_held row.whole row.fields vs ws h g
+one_row row fs gs h g = one_held row.whole row.fields fs gs h g
 
 pub kept_fields : KeptFields
-kept_fields old new values (inl e) = (
-  (λ h. subst (λ r. HasFields r values) e h),
-  (λ h. subst (λ r. HasFields r values) (sym e) h),
+kept_fields old new fields (inl e) = (
+  (λ h. subst (λ r. HasFields r fields) e h),
+  (λ h. subst (λ r. HasFields r fields) (sym e) h),
 )
-kept_fields old new values (inr (vs, has, e)) = (
-  (λ h. subst (λ xs. HasFields old xs) (sym (subst (λ r. HasFields r values) e h)) has),
-  (λ h. subst (λ r. HasFields r values) (sym e) (one_row old values vs h has)),
+kept_fields old new fields (inr (fs, has, e)) = (
+  (λ h. subst (λ xs. HasFields old xs) (sym (subst (λ r. HasFields r fields) e h)) has),
+  (λ h. subst (λ r. HasFields r fields) (sym e) (one_row old fields fs h has)),
 )
 
 pub kept_again : KeptAgain
 kept_again a b c (inl e) g = subst (λ r. IsKept r c) e g
 kept_again a b c (inr h) (inl e) = subst (λ r. IsKept a r) (sym e) (inr h)
-kept_again a b c (inr (vs, has, e)) (inr (ws, again, d)) =
+kept_again a b c (inr (fs, has, e)) (inr (gs, again, d)) =
     inr (
-      ws,
-      (kept_fields a b ws (inr (vs, has, e))).0 again,
-      d ∙ ap (λ (r : Row). record { whole = r.whole; fields = known ws }) e,
+      gs,
+      (kept_fields a b gs (inr (fs, has, e))).0 again,
+      d ∙ ap (λ (r : Row). record { whole = r.whole; fields = known gs }) e,
     )

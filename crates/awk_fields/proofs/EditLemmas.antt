@@ -10,8 +10,7 @@ use Rattle.std.proofs.lemmas.List.Elements.{All-append, All-set, All-replicate, 
 use Rattle.std.specs.Prelude.{All}
 use Rattle.awk_text.specs.Values.{text_of}
 use Rattle.awk_text.specs.declared.value.Value.{Value}
-use Rattle.awk_text.specs.declared.value.Value.TheVariants.{Unset}
-use Rattle.awk_fields.specs.Rows.{joined, padded, with_count, with_field}
+use Rattle.awk_fields.specs.Rows.{Field, blank, joined, padded, rebuilt, shown_in, with_count, with_field}
 
 -- ---- how long the whole text is
 
@@ -47,11 +46,20 @@ joined_length ofs (v ∷ values) =
     one ∙ (ap (λ n. text_bytes v + n) rest ∙ grind (arith, sum, less))
 
 -- the same of what has values
-pub joined_bytes : {X : Type 0} (value : X → Value) (ofs : List ℕ) (xs : List X) → length (joined ofs (map value xs))
+joined_bytes : {X : Type 0} (value : X → Value) (ofs : List ℕ) (xs : List X) → length (joined ofs (map value xs))
     ≡ sum_by (λ x. length (text_of (value x))) xs + (length xs - 1) * length ofs
 joined_bytes value ofs xs = joined_length ofs (map value xs) ∙ (ap (λ n. n + (length (map value xs) - 1) * length ofs)
     (sum_by-map text_bytes value xs) ∙ ap (λ n. sum_by (λ x. length (text_of (value x))) xs + (n - 1) * length ofs)
     (length-map xs value))
+
+-- and of what is a field
+pub rebuilt_bytes : {X : Type 0} (field : X → Field) (ofs : List ℕ) (xs : List X)
+    → length (rebuilt ofs (map field xs)) ≡ sum_by (λ x. length (text_of (field x).shown)) xs
+    + (length xs - 1) * length ofs
+rebuilt_bytes field ofs xs =
+    joined_bytes shown_in ofs (map field xs)
+    ∙ (ap (λ n. n + (length (map field xs) - 1) * length ofs) (sum_by-map (λ f. length (text_of (shown_in f))) field xs)
+    ∙ ap (λ n. sum_by (λ x. length (text_of (field x).shown)) xs + (n - 1) * length ofs) (length-map xs field))
 
 -- ---- one is set
 
@@ -95,20 +103,19 @@ pub put_all : {X : Type 0} (P : X → Type 0) (xs : List X) (n at : ℕ) (x d : 
 put_all P xs n at x d pads new old = All-set P (xs ++ replicate n d) at x new (All-append P xs (replicate n d) old
     (All-replicate P n d pads))
 
-pub map_padded : {X : Type 0} (value : X → Value) (xs : List X) (count : ℕ) (d : X) → value d ≡ Unset
-    → map value (xs ++ replicate (count - length xs) d) ≡ padded (map value xs) count
-map_padded value xs count d none =
-    map-append value xs (replicate (count - length xs) d)
-    ∙ (ap (λ r. map value xs ++ r) (map-replicate value (count - length xs) d
-    ∙ ap (λ v. replicate (count - length xs) v) none) ∙ ap (λ n. map value xs ++ replicate (count - n) Unset)
-    (sym (length-map xs value)))
+pub map_padded : {X : Type 0} (field : X → Field) (xs : List X) (count : ℕ) (d : X) → field d ≡ blank
+    → map field (xs ++ replicate (count - length xs) d) ≡ padded (map field xs) count
+map_padded field xs count d none =
+    map-append field xs (replicate (count - length xs) d)
+    ∙ (ap (λ r. map field xs ++ r) (map-replicate field (count - length xs) d
+    ∙ ap (λ f. replicate (count - length xs) f) none) ∙ ap (λ n. map field xs ++ replicate (count - n) blank)
+    (sym (length-map xs field)))
 
-pub map_put : {X : Type 0} (value : X → Value) (xs : List X) (at : ℕ) (x d : X) (v : Value) → value d ≡ Unset
-    → value x ≡ v → map value (set (xs ++ replicate (at + 1 - length xs) d) at x) ≡ with_field (map value xs) at v
-map_put value xs at x d v none is =
-    map-set value (xs ++ replicate (at + 1 - length xs) d) at x
-    ∙ (ap (λ w. set (map value (xs ++ replicate (at + 1 - length xs) d)) at w) is ∙ ap (λ vs. set vs at v)
-    (map_padded value xs (at + 1) d none))
+pub map_put : {X : Type 0} (field : X → Field) (xs : List X) (at : ℕ) (x d : X) → field d ≡ blank
+    → map field (set (xs ++ replicate (at + 1 - length xs) d) at x) ≡ with_field (map field xs) at (field x)
+map_put field xs at x d none =
+    map-set field (xs ++ replicate (at + 1 - length xs) d) at x ∙ ap (λ fs. set fs at (field x))
+    (map_padded field xs (at + 1) d none)
 
 -- ---- some go, or are added
 
@@ -117,10 +124,10 @@ map-take f zero xs = refl
 map-take f (suc n) [] = refl
 map-take f (suc n) (x ∷ xs) = ap (λ ys. f x ∷ ys) (map-take f n xs)
 
-pub map_count : {X : Type 0} (value : X → Value) (xs : List X) (count : ℕ) (d : X) → value d ≡ Unset
-    → map value (take count (xs ++ replicate (count - length xs) d)) ≡ with_count (map value xs) count
-map_count value xs count d none = map-take value count (xs ++ replicate (count - length xs) d) ∙ ap (take count)
-    (map_padded value xs count d none)
+pub map_count : {X : Type 0} (field : X → Field) (xs : List X) (count : ℕ) (d : X) → field d ≡ blank
+    → map field (take count (xs ++ replicate (count - length xs) d)) ≡ with_count (map field xs) count
+map_count field xs count d none = map-take field count (xs ++ replicate (count - length xs) d) ∙ ap (take count)
+    (map_padded field xs count d none)
 
 take_none : {X : Type 0} (n : ℕ) → take {A = X} n [] ≡ []
 take_none zero = refl

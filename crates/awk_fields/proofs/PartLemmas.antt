@@ -7,16 +7,15 @@ use Rattle.std.proofs.lemmas.List.{length-drop, take_all, get_or_past}
 use Rattle.std.proofs.lemmas.List.Elements.{All-map}
 use Rattle.std.proofs.lemmas.List.Sums.{get_or-le-sum_by, sum_by-take-le, sum_by-take-drop}
 use Rattle.std.specs.List.{sum_by}
-use Rattle.awk_text.specs.Values.{text_of}
-use Rattle.awk_text.specs.declared.value.Value.{Value}
 use Rattle.awk_text.specs.declared.value.Value.TheVariants.{Unset}
-use Rattle.awk_fields.specs.Edits.{IsPartOf, part_bytes, value_of}
-use Rattle.awk_fields.specs.Rows.{joined, with_count, with_field}
+use Rattle.awk_fields.specs.Edits.{IsPartOf, part_bytes, field_of}
+use Rattle.awk_fields.specs.Rows.{rebuilt, with_count, with_field}
 use Rattle.awk_fields.specs.Spans.{IsWithin}
 use Rattle.awk_fields.specs.declared.part.Part.{Part}
 use Rattle.awk_fields.specs.declared.part.Part.TheVariants.{Cut, Own}
 use Rattle.awk_fields.specs.declared.spans.Span.{Span}
-use Rattle.awk_fields.proofs.EditLemmas.{joined_bytes, put_length, put_sum, map_put, count_length, count_sum, map_count}
+use Rattle.awk_fields.proofs.EditLemmas.{rebuilt_bytes, put_length, put_sum, map_put, count_length, count_sum}
+use Rattle.awk_fields.proofs.EditLemmas.{map_count}
 
 pub cut_within : (text : List ℕ) (spans : List Span) (parts : List Part) → parts ≡ map Cut spans
     → All (IsWithin text) spans → All (IsPartOf text) parts
@@ -25,8 +24,8 @@ cut_within text spans parts is within = subst (λ ps. All (IsPartOf text) ps) (s
 
 -- ---- one is set
 
-abbrev pub put_parts : List Part → ℕ → Value → List Part
-put_parts parts at value = set (parts ++ replicate (at + 1 - length parts) (Own Unset)) at (Own value)
+abbrev pub put_parts : List Part → ℕ → Part → List Part
+put_parts parts at part = set (parts ++ replicate (at + 1 - length parts) (Own Unset)) at part
 
 pub part_le : (text : List ℕ) (parts : List Part) (at : ℕ) → part_bytes text (get_or parts at (Own Unset)) ≤ sum_by
     (part_bytes text) parts
@@ -36,31 +35,30 @@ part_le text parts at =
       | inr past ↦ rw (get_or_past parts at (Own Unset) past) (omega arith)
     ]
 
-pub put_bytes : (text : List ℕ) (parts : List Part) (at : ℕ) (value : Value) (before gone new : ℕ)
+pub put_bytes : (text : List ℕ) (parts : List Part) (at : ℕ) (part : Part) (before gone new : ℕ)
     → before ≡ sum_by (part_bytes text) parts → gone ≡ part_bytes text (get_or parts at (Own Unset))
-    → new ≡ length (text_of value)
-    → before - gone + new ≡ sum_by (part_bytes text) (put_parts parts at value)
-put_bytes text parts at value before gone new before_is gone_is new_is =
+    → new ≡ part_bytes text part
+    → before - gone + new ≡ sum_by (part_bytes text) (put_parts parts at part)
+put_bytes text parts at part before gone new before_is gone_is new_is =
     let le = part_le text parts at in
-    let sum : sum_by (part_bytes text) (put_parts parts at value) + part_bytes text (get_or parts at (Own Unset))
-    ≡ sum_by (part_bytes text) parts + length (text_of value) = put_sum (part_bytes text) parts at (Own value)
-    (Own Unset) refl in
+    let sum : sum_by (part_bytes text) (put_parts parts at part) + part_bytes text (get_or parts at (Own Unset))
+    ≡ sum_by (part_bytes text) parts + part_bytes text part = put_sum (part_bytes text) parts at part (Own Unset) refl
+    in
     omega arith
 
-pub put_whole : (text ofs : List ℕ) (parts : List Part) (at : ℕ) (value : Value) (bytes count gap : ℕ)
-    → bytes ≡ sum_by (part_bytes text) (put_parts parts at value) → count ≡ length parts + (at + 1 - length parts)
+pub put_whole : (text ofs : List ℕ) (parts : List Part) (at : ℕ) (part : Part) (bytes count gap : ℕ)
+    → bytes ≡ sum_by (part_bytes text) (put_parts parts at part) → count ≡ length parts + (at + 1 - length parts)
     → gap ≡ length ofs
-    → length (joined ofs (with_field (map (value_of text) parts) at value)) ≡ bytes + (count - 1) * gap
-put_whole text ofs parts at value bytes count gap bytes_are count_is gap_is =
-    let same : length (joined ofs (with_field (map (value_of text) parts) at value))
-    ≡ length (joined ofs (map (value_of text) (put_parts parts at value))) =
-    ap (λ vs. length (joined ofs vs)) (sym (map_put (value_of text) parts at (Own value) (Own Unset) value refl refl))
-    in
-    let total : length (joined ofs (map (value_of text) (put_parts parts at value))) ≡ sum_by (part_bytes text)
-    (put_parts parts at value) + (length (put_parts parts at value) - 1) * length ofs =
-    joined_bytes (value_of text) ofs (put_parts parts at value) in
-    same ∙ (total ∙ (ap (λ n. n + (length (put_parts parts at value) - 1) * length ofs) (sym bytes_are)
-    ∙ (ap (λ n. bytes + (n - 1) * length ofs) (put_length parts at (Own value) (Own Unset) ∙ sym count_is)
+    → length (rebuilt ofs (with_field (map (field_of text) parts) at (field_of text part))) ≡ bytes + (count - 1) * gap
+put_whole text ofs parts at part bytes count gap bytes_are count_is gap_is =
+    let same : length (rebuilt ofs (with_field (map (field_of text) parts) at (field_of text part)))
+    ≡ length (rebuilt ofs (map (field_of text) (put_parts parts at part))) =
+    ap (λ fs. length (rebuilt ofs fs)) (sym (map_put (field_of text) parts at part (Own Unset) refl)) in
+    let total : length (rebuilt ofs (map (field_of text) (put_parts parts at part))) ≡ sum_by (part_bytes text)
+    (put_parts parts at part) + (length (put_parts parts at part) - 1) * length ofs =
+    rebuilt_bytes (field_of text) ofs (put_parts parts at part) in
+    same ∙ (total ∙ (ap (λ n. n + (length (put_parts parts at part) - 1) * length ofs) (sym bytes_are)
+    ∙ (ap (λ n. bytes + (n - 1) * length ofs) (put_length parts at part (Own Unset) ∙ sym count_is)
     ∙ ap (λ n. bytes + (count - 1) * n) (sym gap_is))))
 
 -- ---- some go, or are added
@@ -89,14 +87,14 @@ count_bytes text parts count stay before gone stay_is before_is gone_is =
 
 pub count_whole : (text ofs : List ℕ) (parts : List Part) (count bytes gap : ℕ)
     → bytes ≡ sum_by (part_bytes text) (count_parts parts count) → gap ≡ length ofs
-    → length (joined ofs (with_count (map (value_of text) parts) count)) ≡ bytes + (count - 1) * gap
+    → length (rebuilt ofs (with_count (map (field_of text) parts) count)) ≡ bytes + (count - 1) * gap
 count_whole text ofs parts count bytes gap bytes_are gap_is =
-    let same : length (joined ofs (with_count (map (value_of text) parts) count))
-    ≡ length (joined ofs (map (value_of text) (count_parts parts count))) =
-    ap (λ vs. length (joined ofs vs)) (sym (map_count (value_of text) parts count (Own Unset) refl)) in
-    let total : length (joined ofs (map (value_of text) (count_parts parts count))) ≡ sum_by (part_bytes text)
+    let same : length (rebuilt ofs (with_count (map (field_of text) parts) count))
+    ≡ length (rebuilt ofs (map (field_of text) (count_parts parts count))) =
+    ap (λ fs. length (rebuilt ofs fs)) (sym (map_count (field_of text) parts count (Own Unset) refl)) in
+    let total : length (rebuilt ofs (map (field_of text) (count_parts parts count))) ≡ sum_by (part_bytes text)
     (count_parts parts count) + (length (count_parts parts count) - 1) * length ofs =
-    joined_bytes (value_of text) ofs (count_parts parts count) in
+    rebuilt_bytes (field_of text) ofs (count_parts parts count) in
     same ∙ (total ∙ (ap (λ n. n + (length (count_parts parts count) - 1) * length ofs) (sym bytes_are)
     ∙ (ap (λ n. bytes + (n - 1) * length ofs) (count_length parts count (Own Unset))
     ∙ ap (λ n. bytes + (count - 1) * n) (sym gap_is))))

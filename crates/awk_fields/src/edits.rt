@@ -144,13 +144,7 @@ fn total_len(parts: &[Part], text: &[u8]) -> u128
 }
 
 /// Sets the part at a place.
-pub fn put(
-    edited: &mut Edited,
-    text: &[u8],
-    at: usize,
-    part: Part,
-    ofs: &[u8],
-) -> Result<(), Fault>
+pub fn put(edited: &mut Edited, text: &[u8], at: usize, part: Part, ofs: &[u8]) -> Result<(), Fault>
     requires small { at < 65535 }
     requires within { IsPartOf text.now part }
     requires sound { IsSoundEdited text.now edited.old }

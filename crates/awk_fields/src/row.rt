@@ -3,8 +3,8 @@ ghost use Rattle.std.specs.Prelude.{◌≡◌, ◌<◌, ◌≤◌, ◌⊎◌, �
 ghost use Rattle.std.specs.Prelude.{IfSome};
 ghost use Rattle.awk_text.specs.Limits.{most_bytes};
 ghost use Rattle.awk_text.specs.Lents.{lent_value};
-ghost use Rattle.awk_fields.specs.Rows.{Field, known, plain, unsplit, place_of, field_place, HasFields, IsKept, IsValueAt};
-ghost use Rattle.awk_fields.specs.Rows.{SetsCount, SetsField, SetsNoField, SetsNoCount};
+ghost use Rattle.awk_fields.specs.Rows.{Field, known, plain, unsplit, place_of, field_place, HasFields, IsKept};
+ghost use Rattle.awk_fields.specs.Rows.{IsValueAt, SetsCount, SetsField, SetsNoField, SetsNoCount};
 
 use crate::edits::{Edited, put, set_len};
 use crate::part::Part;
@@ -154,7 +154,13 @@ impl Record {
     {
         let at = field_place(n)?;
         edit_parts(&mut self.parts, self.text.bytes())?;
-        put(&mut self.parts.edited, self.text.bytes(), at, Part::Own(value), ofs)
+        put(
+            &mut self.parts.edited,
+            self.text.bytes(),
+            at,
+            Part::Own(value),
+            ofs,
+        )
     }
 
     /// Sets a field to a number, for which this text stands in the whole text. All else, and how it fails, is as in

@@ -2,7 +2,7 @@
 -- Special Variables", "Expressions in awk".
 -- A number without a fraction has its digits, whatever the format is.
 use Rattle.std.specs.Prelude.{ℕ, Bool, true, false, not, ◌&&◌, List, [], ◌∷◌, codes, drop, get_or, Result, Ok, Err}
-use Rattle.std.specs.Prelude.{if◌then◌else◌}
+use Rattle.std.specs.Prelude.{if◌then◌else◌, Option, Some, None}
 use Rattle.std.specs.Float.{Float}
 use Rattle.std.specs.Str.{bytes_eq}
 use Rattle.awk_numbers.specs.declared.number.Numbers.{Numbers}
@@ -71,6 +71,11 @@ values_by numbers format values = if is_usual numbers format then Ok values else
 abbrev pub value_by : Numbers → List ℕ → Value → Result Value Fault
 value_by numbers format (Real x) = if is_usual numbers format then Ok (Real x) else shown_real format x
 value_by numbers format other = Ok other
+
+-- a number, or the text that stands for it
+abbrev pub standing : Float → Option (List ℕ) → Value
+standing x None = Real x
+standing x (Some text) = Text text
 
 -- ---- the values of another format, which has conversion specifications of its own
 

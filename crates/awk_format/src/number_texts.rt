@@ -6,7 +6,7 @@ ghost use Rattle.awk_format.specs.Formatted.{pieces};
 ghost use Rattle.awk_format.specs.NumberTexts.{all_shown, directives, is_of_number, is_usual, number_text, shown};
 ghost use Rattle.awk_format.specs.NumberTexts.{formatted_with, is_left, shown_if, shown_real, shown_where, shows_number};
 ghost use Rattle.awk_format.specs.NumberTexts.{shows_text};
-ghost use Rattle.awk_format.specs.NumberTexts.{value_by, wants_texts};
+ghost use Rattle.awk_format.specs.NumberTexts.{standing, value_by, wants_texts};
 
 use crate::directive::{Conversion, read_directive};
 use crate::{begins_with_percent, format, plain_length};
@@ -24,7 +24,7 @@ pub fn is_usual(numbers: Numbers, format: &[u8]) -> bool
 {
     match numbers {
         Numbers::Whole => true,
-        Numbers::Double => format == b"%.6g".as_slice(),
+        Numbers::Double => matches!(format, [b'%', b'.', b'6', b'g']),
     }
 }
 
@@ -125,8 +125,27 @@ pub fn all_shown(alloc: Global, by: &[u8], values: &[Value]) -> Result<Vec<Value
     Ok(made)
 }
 
-/// The value, and of a number with a fraction its text by the format, which has one conversion specification of a
-/// number: a text is wanted. POSIX.1-2017, XCU awk, "Expressions in awk", CONVFMT.
+/// The text of a number by the format, which has one conversion specification of a number: none where the number's own
+/// text is meant, since it has no fraction or the format is `%.6g`. POSIX.1-2017, XCU awk, "Expressions in awk",
+/// CONVFMT.
+///
+/// Fails as `all_shown` does.
+pub fn number_by(
+    alloc: Global,
+    numbers: Numbers,
+    by: &[u8],
+    x: f64,
+) -> Result<Option<Octets>, Fault>
+    ensures ok { IfOk result (λ made. value_by numbers by.now (Value.Real x) ≡ Ok (standing x made)) }
+    ensures err { IfErr result (λ e. (e ≡ Fault.Memory) ⊎ (value_by numbers by.now (Value.Real x) ≡ Err e)) }
+{
+    if is_usual(numbers, by) || is_integral(x) {
+        return Ok(None);
+    }
+    Ok(Some(Octets::new(number_text(alloc, by, x)?)))
+}
+
+/// The value, and of a number with a fraction its text by the format, as [`number_by`] makes it: a text is wanted.
 ///
 /// Fails as `all_shown` does.
 pub fn value_by(alloc: Global, numbers: Numbers, by: &[u8], value: Value) -> Result<Value, Fault>
@@ -134,12 +153,10 @@ pub fn value_by(alloc: Global, numbers: Numbers, by: &[u8], value: Value) -> Res
     ensures err { IfErr result (λ e. (e ≡ Fault.Memory) ⊎ (value_by numbers by.now value ≡ Err e)) }
 {
     match value {
-        Value::Real(x) => {
-            if is_usual(numbers, by) {
-                return Ok(Value::Real(x));
-            }
-            shown_real(alloc, by, x)
-        }
+        Value::Real(x) => match number_by(alloc, numbers, by, x)? {
+            Some(text) => Ok(Value::Text(text)),
+            None => Ok(Value::Real(x)),
+        },
         other => Ok(other),
     }
 }

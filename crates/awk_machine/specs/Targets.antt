@@ -21,6 +21,7 @@ use Rattle.awk_machine.specs.Operators.{of_count, limited}
 use Rattle.awk_machine.specs.Pieces.{Piece, Do, Target, Variable, Element, Field, Give, Set, Whole, Rebuild, Check}
 use Rattle.awk_machine.specs.Pieces.{Then, Goes, Seeks, give, granted, ends, Faulted}
 use Rattle.awk_machine.specs.Questions.{Spells, Fields, yes, these}
+use Rattle.awk_machine.specs.State.{State}
 use Rattle.awk_machine.specs.Variables.{is_nf, own_text, by_convfmt, variable, with_variable, array, with_array}
 
 -- ---- the target that is meant

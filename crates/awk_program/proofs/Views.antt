@@ -135,8 +135,8 @@ pub view-Concat : (t : Names) (x : Expr) (xs : List (Joined Expr)) → view t (e
 unfolding layer
 view-Concat t x xs = opened t _ _ (e.rolls-Concat x xs)
 
-pub view-Compare : (t : Names) (q : Place) (how : Comparison) (x : Expr) (y : Expr)
-    → view t (e.Compare q how x y) ≡ p.compare q how (view t x) (view t y)
+pub view-Compare : (t : Names) (q : Place) (how : Comparison) (x : Expr) (y : Expr) → view t (e.Compare q how x y)
+    ≡ p.compare q how (view t x) (view t y)
 unfolding layer
 view-Compare t q how x y = opened t _ _ (e.rolls-Compare q how x y)
 

@@ -1,6 +1,6 @@
 -- What the machine reads of its state, where the code reads of its store.
 use Rattle.std.proofs.Common.{◌≡◌, inl, inr, refl, ap, ◌∙◌, List}
-use Rattle.awk_fields.specs.Rows.{Row, IsKept, HasFields}
+use Rattle.awk_fields.specs.Rows.{Field, Row, IsKept, HasFields}
 use Rattle.awk_fields.proofs.Alone.{kept_again, kept_fields}
 use Rattle.awk_text.specs.declared.value.Value.{Value}
 use Rattle.awk_program.specs.Slots.{name_of}
@@ -70,5 +70,5 @@ module _ (g : Given) (w : Whole) (hid : Hidden) (c : Course) (a : Agreeing g w h
       (set.variable (names_in g) w.0 hid a.sound x v)
 
   -- the store's record has the fields of the machine's
-  pub fields-so : (row : _) (vs : List Value) → IsKept w.0.row row → HasFields row vs → HasFields hid.row vs
-  fields-so row vs is has = (kept_fields hid.row row vs (kept_again hid.row w.0.row row a.row is)).0 has
+  pub fields-so : (row : _) (fs : List Field) → IsKept w.0.row row → HasFields row fs → HasFields hid.row fs
+  fields-so row fs is has = (kept_fields hid.row row fs (kept_again hid.row w.0.row row a.row is)).0 has

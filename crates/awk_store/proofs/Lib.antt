@@ -6,6 +6,7 @@ pub mod Beginning
 pub mod CallSteps
 pub mod Calling
 pub mod Cells
+pub mod Convfmt
 pub mod Ending
 pub mod Framing
 pub mod Leading

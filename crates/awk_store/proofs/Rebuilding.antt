@@ -2,12 +2,12 @@
 use Rattle.std.proofs.Common.{◌≡◌, ◌<◌, refl, ℕ, Bool, true, false, List, ◌∷◌, length, arith}
 use Rattle.std.proofs.lemmas.Bool.Decides.{nat_tests}
 use Rattle.std.specs.Prelude.{Err, ◌≤◌, nat_le}
-use Rattle.awk_fields.specs.Rows.{Row, IsKept, known, joined}
+use Rattle.awk_fields.specs.Rows as row
+use Rattle.awk_fields.specs.Rows.{Field, Row, IsKept, known}
 use Rattle.awk_fields.proofs.Alone.{kept_again}
 use Rattle.awk_text.specs.Limits.{most_bytes}
 use Rattle.awk_text.specs.declared.fault.Fault.TheVariants as fault
 use Rattle.awk_text.specs.declared.place.Place.{Place}
-use Rattle.awk_text.specs.declared.value.Value.{Value}
 use Rattle.awk_program.specs.declared.variables.Own.TheVariants as own
 use Rattle.awk_machine.specs.Advances.{advance}
 use Rattle.awk_machine.specs.Operators.{limited}
@@ -30,35 +30,35 @@ pub limited_err : (text : List ℕ) → most_bytes < length text → limited tex
 limited_err text h = limited_by (nat_le (length text) most_bytes) text refl h
 
 -- the record of these fields, with OFS between their texts
-abbrev pub rebuilt : Whole → List Value → Row
-rebuilt old vs = record { whole = joined (kept.own_text old.0 own.Ofs) vs; fields = known vs }
+abbrev pub rebuilt : Whole → List Field → Row
+rebuilt old fs = record { whole = row.rebuilt (kept.own_text old.0 own.Ofs) fs; fields = known fs }
 
 module _ (g : Given) (old : Whole) where
   -- the store's record has its fields now
-  pub agreeing_row : (row : Row) → IsKept old.0.row row → (hid : Hidden) (c : Course) → Agreeing g old hid c
-      → Agreeing g (changes.with_row row old.0, old.1) hid c
-  agreeing_row row is hid c a = record {
+  pub agreeing_row : (new : Row) → IsKept old.0.row new → (hid : Hidden) (c : Course) → Agreeing g old hid c
+      → Agreeing g (changes.with_row new old.0, old.1) hid c
+  agreeing_row new is hid c a = record {
     tells = a.tells;
-    row = kept_again hid.row old.0.row row a.row is;
+    row = kept_again hid.row old.0.row new a.row is;
     cells =
         a.cells;
     sound = a.sound;
   }
 
-  pub rebuild_moves : (place : Place) (vs : List Value) → length (joined (kept.own_text old.0 own.Ofs) vs) ≤ most_bytes
-      → (k : List Piece) (hid : Hidden) (c : Course) → Agreeing g old hid c →
-      advance g (Do (Rebuild place vs) ∷ k) (seen (base g old hid) c)
-      ≡ Goes k (seen (base g old (record hid { row = rebuilt old vs })) c)
-  rebuild_moves place vs fits k hid c a = rw (
+  pub rebuild_moves : (place : Place) (fs : List Field)
+      → length (row.rebuilt (kept.own_text old.0 own.Ofs) fs) ≤ most_bytes → (k : List Piece) (hid : Hidden) (c : Course) → Agreeing g old hid c →
+      advance g (Do (Rebuild place fs) ∷ k) (seen (base g old hid) c)
+      ≡ Goes k (seen (base g old (record hid { row = rebuilt old fs })) c)
+  rebuild_moves place fs fits k hid c a = rw (
     own-text-so g old hid c a own.Ofs,
-    limited_ok (joined (kept.own_text old.0 own.Ofs) vs) fits,
+    limited_ok (row.rebuilt (kept.own_text old.0 own.Ofs) fs) fits,
   ) refl
 
-  pub rebuild_faults : (place : Place) (vs : List Value) → most_bytes < length (joined (kept.own_text old.0 own.Ofs) vs)
-      → (k : List Piece) (hid : Hidden) (c : Course) → Agreeing g old hid c →
-      advance g (Do (Rebuild place vs) ∷ k) (seen (base g old hid) c) ≡ Goes (ends (Faulted fault.TextTooLong place))
+  pub rebuild_faults : (place : Place) (fs : List Field)
+      → most_bytes < length (row.rebuilt (kept.own_text old.0 own.Ofs) fs) → (k : List Piece) (hid : Hidden) (c : Course) → Agreeing g old hid c →
+      advance g (Do (Rebuild place fs) ∷ k) (seen (base g old hid) c) ≡ Goes (ends (Faulted fault.TextTooLong place))
       (seen (base g old hid) c)
-  rebuild_faults place vs over k hid c a = rw (
+  rebuild_faults place fs over k hid c a = rw (
     own-text-so g old hid c a own.Ofs,
-    limited_err (joined (kept.own_text old.0 own.Ofs) vs) over,
+    limited_err (row.rebuilt (kept.own_text old.0 own.Ofs) fs) over,
   ) refl

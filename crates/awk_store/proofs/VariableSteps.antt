@@ -1,7 +1,7 @@
 -- How targets are read and set.
 use Rattle.std.proofs.Common.{◌≡◌, ◌⊎◌, inl, inr, refl, sym, ap, subst, ◌∙◌, ℕ, ℤ, true, false, List, ◌∷◌, length}
 use Rattle.std.specs.Prelude.{Result, Ok, Err, pos, OnOk, OnErr, IfErr}
-use Rattle.awk_fields.specs.Rows.{Row, IsKept, HasFields, SetsCount, SetsNoCount, with_count, place_of}
+use Rattle.awk_fields.specs.Rows.{Field, Row, IsKept, HasFields, SetsCount, SetsNoCount, with_count, place_of}
 use Rattle.awk_format.specs.Directives.{◌>>=◌}
 use Rattle.awk_text.specs.Arithmetic.{whole_of}
 use Rattle.awk_text.specs.Values.{number_of}
@@ -18,7 +18,7 @@ use Rattle.awk_machine.specs.Advances.{advance}
 use Rattle.awk_machine.specs.Operators.{of_count}
 use Rattle.awk_machine.specs.Pieces as machine
 use Rattle.awk_machine.specs.Pieces.{Piece, Do, Get, Set, Rebuild, Goes, Seeks, give, ends, Faulted}
-use Rattle.awk_machine.specs.Questions.{Fields, Values, values}
+use Rattle.awk_machine.specs.Questions.{Fields, These, these}
 use Rattle.awk_machine.specs.State.{Course, Given}
 use Rattle.awk_machine.specs.Streams.{seen}
 use Rattle.awk_store.specs.Changes as changes
@@ -47,23 +47,23 @@ module _ (g : Given) (old : Whole) (x : Variable) where
 
   nf_moves : kept.is_nf x ≡ true → (k : List Piece) (hid : Hidden) (c : Course) → Agreeing g old hid c →
       advance g (Do (Get (machine.Variable (variable_of (names_in g) x))) ∷ k) (seen (base g old hid) c)
-      ≡ Seeks (Fields hid.row) (λ fields. give (of_count (length (values fields))) k) (seen (base g old hid) c)
+      ≡ Seeks (Fields hid.row) (λ a. give (of_count (length (these a))) k) (seen (base g old hid) c)
   nf_moves y k hid c a = rw (nf-so g old hid c a x, y) refl
 
   pub reads_variable : kept.is_nf x ≡ false → Acts g (Do (Get (machine.Variable (variable_of (names_in g) x)))) give old
       (Ok (kept.value old.0 x)) old
   reads_variable n = done (moves (at_rest _ old) (variable_moves n))
 
-  pub counts_fields : (row : Row) (vs : List Value) → kept.is_nf x ≡ true → IsKept old.0.row row → HasFields row vs →
+  pub counts_fields : (row : Row) (vs : List Field) → kept.is_nf x ≡ true → IsKept old.0.row row → HasFields row vs →
       Acts g (Do (Get (machine.Variable (variable_of (names_in g) x)))) give old (Ok (v.Num (pos (length vs))))
       (changes.with_row row old.0, old.1)
   counts_fields row vs y is has =
       done (keeps refl (λ hid. refl) (agreeing_row g old row is)
-      (finds (λ hid. Fields hid.row) (Values vs) (at_rest _ old)
+      (finds (λ hid. Fields hid.row) (These vs) (at_rest _ old)
       (λ k hid c a. (nf_moves y k hid c a, fields-so g old hid c a row vs is has))))
 
   pub counted_nf : (new : Kept) (n : ℤ) → kept.is_nf x ≡ true → new ≡ changes.with_row new.row old.0
-      → IsKept old.0.row new.row → (vs : List Value) × HasFields new.row vs × (n ≡ pos (length vs)) →
+      → IsKept old.0.row new.row → (vs : List Field) × HasFields new.row vs × (n ≡ pos (length vs)) →
       Acts g (Do (Get (machine.Variable (variable_of (names_in g) x)))) give old (Ok (v.Num n)) (new, old.1)
   counted_nf new n y same is (vs, has, e) =
       subst (λ (k : Kept). Acts g (Do (Get (machine.Variable (variable_of (names_in g) x)))) give old (Ok (v.Num n))
@@ -122,7 +122,7 @@ module _ (g : Given) (old : Whole) (x : Variable) where
   nf_set_moves : (place : Place) (val : Value) (n : ℕ) → kept.is_nf x ≡ true → count_in val ≡ Ok n
       → (k : List Piece) (hid : Hidden) (c : Course) → Agreeing g old hid c →
       advance g (Do (Set (machine.Variable (variable_of (names_in g) x)) place val) ∷ k) (seen (base g old hid) c)
-      ≡ Seeks (Fields hid.row) (λ a. Do (Rebuild place (with_count (values a) n)) ∷ k) (seen (base g old hid) c)
+      ≡ Seeks (Fields hid.row) (λ a. Do (Rebuild place (with_count (these a) n)) ∷ k) (seen (base g old hid) c)
   nf_set_moves place val n y is k hid c a = rw (nf-so g old hid c a x, y, is) refl
 
   -- ---- NF: its number, the fields, and the record
@@ -158,15 +158,15 @@ module _ (g : Given) (old : Whole) (x : Variable) where
           old.1,
         )
     set_nf new n e same s =
-        let vs = with_count s.values s.count in
+        let vs = with_count s.fields s.count in
         subst (λ (k : Kept). Acts g (Do (Set (machine.Variable (variable_of (names_in g) x)) place val)) goes_on old
         (Ok (tt {0})) (k, old.1)) (sym same)
         (done (alters refl
-        (finds {then_ = λ k a. Do (Rebuild place (with_count (values a) s.count)) ∷ k} (λ hid. Fields hid.row)
-        (Values s.values) (at_rest _ old)
+        (finds {then_ = λ k a. Do (Rebuild place (with_count (these a) s.count)) ∷ k} (λ hid. Fields hid.row)
+        (These s.fields) (at_rest _ old)
         (λ k hid c a. (
           nf_set_moves place val s.count y (number_so val n e ∙ s.count_is) k hid c a,
-          fields-so g old hid c a old.0.row s.values (inl refl) s.before,
+          fields-so g old hid c a old.0.row s.fields (inl refl) s.before,
         )))
         (λ k hid c a. (
           record hid { row = rebuilt old vs },
@@ -198,8 +198,8 @@ module _ (g : Given) (old : Whole) (x : Variable) where
             ∙ ap Err (sym f)))))
         why_so (inr (inr (f, (count, vs, is_count, has, over)))) =
             inr (at_end (moves
-            (finds {then_ = λ k a. Do (Rebuild place (with_count (values a) count)) ∷ k} (λ hid. Fields hid.row)
-            (Values vs) (at_rest _ old)
+            (finds {then_ = λ k a. Do (Rebuild place (with_count (these a) count)) ∷ k} (λ hid. Fields hid.row)
+            (These vs) (at_rest _ old)
             (λ k hid c a. (
               nf_set_moves place val count y (number_so val n e ∙ is_count) k hid c a,
               fields-so g old hid c a old.0.row vs (inl refl) has,

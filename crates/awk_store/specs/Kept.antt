@@ -1,12 +1,15 @@
 -- What a store holds, as plain data: the variables of the whole script by their slots, the parameters of the present
 -- call by their places, the record, and how far the run is.
 use Rattle.std.specs.Prelude.{ℕ, ◌==◌, Bool, false, List, [], Option, Some, None, unwrap_or, slice_get}
+use Rattle.std.specs.Prelude.{Result}
 use Rattle.awk_numbers.specs.declared.number.Numbers.{Numbers}
 use Rattle.awk_numbers.specs.declared.random.Random.{Random}
 use Rattle.awk_text.specs.declared.value.Value.{Value}
 use Rattle.awk_text.specs.declared.value.Value.TheVariants as v
+use Rattle.awk_text.specs.declared.fault.Fault.{Fault}
 use Rattle.awk_text.specs.Values.{text_of}
 use Rattle.awk_fields.specs.Rows.{Row}
+use Rattle.awk_format.specs.NumberTexts.{value_by}
 use Rattle.awk_program.specs.Slots.{Text, slot_of}
 use Rattle.awk_program.specs.declared.variables.Own.{Own}
 use Rattle.awk_program.specs.declared.variables.Own.TheVariants as own
@@ -83,6 +86,10 @@ own_value kept x = value_at kept.cells (slot_of x)
 
 abbrev pub own_text : Kept → Own → Text
 own_text kept x = text_of (own_value kept x)
+
+-- a value of which a text is wanted: of a number with a fraction the text that CONVFMT makes of it now
+abbrev pub by_convfmt : Kept → Value → Result Value Fault
+by_convfmt kept x = value_by kept.numbers (own_text kept own.Convfmt) x
 
 -- ---- arrays
 

@@ -24,6 +24,7 @@ pub mod numbers;
 mod phase;
 mod record;
 mod separators;
+pub mod shown;
 mod spot;
 pub mod steps;
 mod store;

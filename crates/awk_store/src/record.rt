@@ -6,8 +6,8 @@ ghost use Rattle.awk_text.specs.Limits.{most_bytes};
 ghost use Rattle.awk_text.specs.Values.{text_of};
 ghost use Rattle.awk_machine.specs.Targets.{is_empty};
 ghost use Rattle.awk_program.specs.Slots.{slot_of};
-ghost use Rattle.awk_fields.specs.Rows.{place_of, HasFields, IsKept, IsValueAt, SetsCount, SetsField, SetsNoCount};
-ghost use Rattle.awk_fields.specs.Rows.{SetsNoField};
+ghost use Rattle.awk_fields.specs.Rows.{place_of, Field, HasFields, IsKept, IsValueAt, SetsCount, SetsField, plain};
+ghost use Rattle.awk_fields.specs.Rows.{SetsNoCount, SetsNoField};
 ghost use Rattle.awk_fields.specs.Separators.{IsEre, IsNoEre, separator};
 ghost use Rattle.awk_program.specs.declared.variables.Own.TheVariants as own;
 ghost use Rattle.awk_store.specs.Kept.{own_text, value_at};
@@ -139,14 +139,30 @@ impl Store {
     /// where the whole text would have too many bytes, and with `Fault::Memory` where memory is refused; then the
     /// record is as it was.
     pub fn set_field(&mut self, n: i64, value: Value) -> Result<(), Fault>
-        ensures ok { OnOk result (SetsField self.old.row n value (own_text self.old own.Ofs) self.new.row) }
+        ensures ok { OnOk result (SetsField self.old.row n (plain value) (own_text self.old own.Ofs) self.new.row) }
         ensures err { OnErr result (IsKept self.old.row self.new.row) }
         ensures others { self.new ≡ with_row self.new.row self.old }
-        ensures fault { IfErr result (λ e. SetsNoField self.old.row n value (own_text self.old own.Ofs) e) }
+        ensures fault { IfErr result (λ e. SetsNoField self.old.row n (plain value) (own_text self.old own.Ofs) e) }
     {
         let mut buffer = Buffer::new();
         let ofs = own_text(self.cells.as_slice(), Own::Ofs, &mut buffer);
         self.row.set_field(n, value, ofs)
+    }
+
+    /// Sets a field to a number, for which this text stands in the whole text. All else, and how it fails, is as in
+    /// [`set_field`](Store::set_field).
+    pub fn set_shown(&mut self, n: i64, number: f64, shown: Octets) -> Result<(), Fault>
+        ensures ok { OnOk result (SetsField self.old.row n
+            (record { value = Value.Real number; shown = Value.Text shown }) (own_text self.old own.Ofs)
+            self.new.row) }
+        ensures err { OnErr result (IsKept self.old.row self.new.row) }
+        ensures others { self.new ≡ with_row self.new.row self.old }
+        ensures fault { IfErr result (λ e. SetsNoField self.old.row n
+            (record { value = Value.Real number; shown = Value.Text shown }) (own_text self.old own.Ofs) e) }
+    {
+        let mut buffer = Buffer::new();
+        let ofs = own_text(self.cells.as_slice(), Own::Ofs, &mut buffer);
+        self.row.set_shown(n, number, shown, ofs)
     }
 
     /// NF, the number of fields. The record stays the same.
@@ -154,7 +170,7 @@ impl Store {
     /// Fails with `Fault::Memory` alone, where memory is refused.
     pub fn field_count(&mut self) -> Result<i64, Fault>
         ensures ok { IfOk result
-            (λ n. (values : List Value) × HasFields self.new.row values × (n ≡ pos (length values))) }
+            (λ n. (fields : List Field) × HasFields self.new.row fields × (n ≡ pos (length fields))) }
         ensures kept { IsKept self.old.row self.new.row }
         ensures others { self.new ≡ with_row self.new.row self.old }
         ensures fault { IfErr result (λ e. e ≡ Fault.Memory) }
@@ -189,7 +205,7 @@ impl Store {
     /// NF, where the record is split. Takes no memory.
     pub fn known_field_count(&self) -> Option<i64>
         ensures { IfSome result
-            (λ n. (values : List Value) × HasFields self.now.row values × (n ≡ pos (length values))) }
+            (λ n. (fields : List Field) × HasFields self.now.row fields × (n ≡ pos (length fields))) }
     {
         self.row.known_count()
     }

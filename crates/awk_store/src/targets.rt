@@ -3,6 +3,7 @@ ghost use Rattle.awk_machine.specs.Pieces.{Do, Get, Set, give};
 ghost use Rattle.awk_machine.specs.State.{Given};
 ghost use Rattle.awk_machine.specs.Targets as machine;
 ghost use Rattle.awk_store.specs.Acts.{Acts, Passes};
+ghost use Rattle.awk_store.specs.Kept.{by_convfmt};
 ghost use Rattle.awk_store.specs.Numbers.{whole_number};
 ghost use Rattle.awk_store.specs.Spots as spec;
 ghost use Rattle.awk_store.specs.Spots.{meant};
@@ -10,11 +11,12 @@ ghost use Rattle.awk_store.specs.Wholes.{names_in};
 ghost use Rattle.awk_streams.specs.Tables.{Table};
 ghost use Rattle.awk_streams.specs.Tasks.{goes_on};
 ghost use Rattle.awk_text.specs.Values as values;
-ghost use Rattle.std.specs.Prelude.{IfOk, IfSome, ◌≡◌};
+ghost use Rattle.std.specs.Prelude.{IfOk, IfSome, Ok, ◌≡◌};
 
 use crate::elements::{read_element, set_element};
 use crate::fields::{read_field, set_field};
 use crate::numbers::whole_number;
+use crate::shown::{input_of, usual_text};
 use crate::spot::Spot;
 use crate::variables::{read_variable, replace_variable, set_variable};
 use crate::{Store, is_nf};
@@ -22,9 +24,8 @@ use awk_numbers::number::Numbers;
 use awk_streams::halt::Halt;
 use awk_text::buffer::Buffer;
 use awk_text::fault::Fault;
-use awk_text::octets::Octets;
 use awk_text::place::Place;
-use awk_text::value::{Value, text_in, text_of};
+use awk_text::value::Value;
 use std::alloc::Global;
 
 /// Reads it.
@@ -42,23 +43,27 @@ pub fn read(store: &mut Store, target: &Spot) -> Result<Value, Halt>
     }
 }
 
-/// The text that it holds, lent, where that is there and reading it changes nothing: of `$0` unless it is to be
-/// rebuilt, of an element, and of a variable that is not NF. Takes no memory.
+/// The text that it holds, lent, where that is there, reading it changes nothing, and CONVFMT has no say: of `$0` unless
+/// it is to be rebuilt, of an element, and of a variable that is not NF. Takes no memory.
 pub fn lent<'a>(store: &'a Store, target: &Spot, buffer: &'a mut Buffer) -> Option<&'a [u8]>
     ensures { IfSome result
-        (λ text. (g : Given) (t : Table) → (x : Value) × (values.text_of x ≡ text.now)
-        × Passes g (Do (Get (meant (names_in g) target.now))) (store.now, t) (give x) (store.now, t)) }
+        (λ text. (g : Given) (t : Table) → (x : Value) × (by_convfmt store.now x ≡ Ok x)
+        × (values.text_of x ≡ text.now) × Passes g (Do (Get (meant (names_in g) target.now))) (store.now, t) (give x) (store.now, t)) }
 {
     match target {
         Spot::Variable(variable) => {
             if is_nf(*variable) {
                 return None;
             }
-            Some(text_in(store.value(*variable)?, buffer))
+            usual_text(store, store.value(*variable)?, buffer)
         }
         Spot::Element(_, array, key) => {
             let mut digits = Buffer::new();
-            Some(text_in(store.element(*array, key.text(&mut digits))?, buffer))
+            usual_text(
+                store,
+                store.element(*array, key.text(&mut digits))?,
+                buffer,
+            )
         }
         Spot::Field(number) => {
             if *number == 0 {
@@ -125,17 +130,17 @@ fn as_number(numbers: Numbers, value: &Value) -> Value
 /// Fails where memory is refused.
 pub fn stored(
     alloc: Global,
-    numbers: Numbers,
+    store: &Store,
     target: &Spot,
     value: &mut Value,
 ) -> Result<Value, Fault>
-    ensures ok { IfOk result (λ x. x ≡ spec.stored numbers target.now value.old) }
+    ensures ok { IfOk result (λ x. x ≡ spec.stored store.now target.now value.old) }
     ensures same { value.new ≡ value.old }
 {
     match target {
         Spot::Variable(variable) => {
             if is_nf(*variable) {
-                Ok(as_number(numbers, value))
+                Ok(as_number(store.numbers(), value))
             } else {
                 value.share(alloc)
             }
@@ -143,7 +148,7 @@ pub fn stored(
         Spot::Element(_, _, _) => value.share(alloc),
         Spot::Field(number) => {
             if *number == 0 {
-                Ok(Value::Input(Octets::new(text_of(alloc, value)?)))
+                input_of(alloc, store, value)
             } else {
                 value.share(alloc)
             }

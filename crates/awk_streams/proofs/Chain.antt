@@ -23,7 +23,8 @@ use Rattle.awk_program.specs.declared.operators.Operator.{Operator}
 use Rattle.awk_program.specs.Program as p
 use Rattle.awk_program.specs.Program.{Expression, Terms}
 use Rattle.awk_machine.specs.Forms.{value}
-use Rattle.awk_machine.specs.Operators.{compared, computed}
+use Rattle.awk_machine.specs.Operators.{computed}
+use Rattle.awk_machine.specs.Variables.{compared_by}
 use Rattle.awk_numbers.specs.declared.number.Numbers.{Numbers}
 use Rattle.awk_streams.specs.declared.halt.Halt.{Halt}
 use Rattle.awk_streams.specs.declared.halt.Halt.TheVariants as halt
@@ -403,19 +404,20 @@ passes {r = r} h m = passes-at r h m
 
 module _ {W St H : Type 0} {ghosts : Ghosts W} {base : St → H → State} {Ag : St → H → Course → Type 0} {used : St
     → ℕ} {g : Given} where
-  compare : (numbers : Numbers) (how : Comparison) (x y : Expression) (v w : Value) (old mid new : St) (a b c : W)
-      → ((hid : H) → (base new hid).numbers ≡ numbers) → Meets ghosts base Ag used g (value x) give old a (Ok v) mid b →
-      Meets ghosts base Ag used g (value y) give mid b (Ok w) new c
-      → Meets ghosts base Ag used g (value (p.compare how x y)) give old a (Ok (compared numbers how v w)) new c
-  compare numbers how x y v w old mid new a b c its left right =
-      done (quiet (part w (quiet (part v (quiet (at_once _ old a) (λ k hid c. refl)) left refl) (λ k hid c. refl)) right
-      refl) (λ k hid c. rw (its hid) refl))
-
-  compare-halts : (how : Comparison) (x y : Expression) (v : Value) (h : Halt) (old mid new : St) (a b c : W)
+  compare : (place : Place) (how : Comparison) (x y : Expression) (v w made : Value) (old mid new : St) (a b c : W)
+      → ((hid : H) (d : Course) → compared_by (seen (base new hid) d) how v w ≡ Ok made)
       → Meets ghosts base Ag used g (value x) give old a (Ok v) mid b →
+      Meets ghosts base Ag used g (value y) give mid b (Ok w) new c
+      → Meets ghosts base Ag used g (value (p.compare place how x y)) give old a (Ok made) new c
+  compare place how x y v w made old mid new a b c its left right =
+      done (quiet (part w (quiet (part v (quiet (at_once _ old a) (λ k hid c. refl)) left refl) (λ k hid c. refl)) right
+      refl) (λ k hid d. rw (its hid d) refl))
+
+  compare-halts : (place : Place) (how : Comparison) (x y : Expression) (v : Value) (h : Halt) (old mid new : St)
+      (a b c : W) → Meets ghosts base Ag used g (value x) give old a (Ok v) mid b →
       Meets ghosts base Ag used g (value y) give mid b (Err h) new c
-      → Meets ghosts base Ag used g (value (p.compare how x y)) give old a (Err h) new c
-  compare-halts how x y v h old mid new a b c left right =
+      → Meets ghosts base Ag used g (value (p.compare place how x y)) give old a (Err h) new c
+  compare-halts place how x y v h old mid new a b c left right =
       stop h (λ k. refl) (quiet (part v (quiet (at_once _ old a) (λ k hid c. refl)) left refl) (λ k hid c. refl)) right
       refl
 

@@ -29,10 +29,11 @@ use crate::at_hand::texts::{add_item, add_others, join_operands};
 use crate::at_hand::values::{MOST_LEVELS, at_hand, number_at_hand, number_there};
 use crate::line::Line;
 use crate::made::stepped_at;
-use crate::shown::without_convfmt;
+use crate::shown::operand_of;
 use awk_numbers::number::Number;
 use awk_program::{Expr, Own, Step, Target, Variable};
 use awk_store::elements::{read_element, set_element};
+use awk_store::shown::unless_shown;
 use awk_store::{Spot, Store};
 use awk_streams::halt::Halt;
 use awk_text::buffer::Buffer;
@@ -135,8 +136,7 @@ pub(crate) fn number_of_key(store: &Store, keys: &[Expr]) -> Option<i64>
     let [one] = keys else {
         return None;
     };
-    let key = without_convfmt(store, one)?;
-    number_there(store, key)
+    number_there(store, operand_of(one))
 }
 
 /// The number of the field that is the only subscript, where that number is at hand.
@@ -148,8 +148,7 @@ fn field_of_key(store: &Store, keys: &[Expr]) -> Option<u16>
     let [one] = keys else {
         return None;
     };
-    let key = without_convfmt(store, one)?;
-    let Expr::Read(target) = key else {
+    let Expr::Read(target) = operand_of(one) else {
         return None;
     };
     let Target::Field(_, number) = target else {
@@ -159,6 +158,7 @@ fn field_of_key(store: &Store, keys: &[Expr]) -> Option<u16>
     let Ok(number) = u16::try_from(number) else {
         return None;
     };
+    unless_shown(store, store.lent_field(number)?)?;
     Some(number)
 }
 

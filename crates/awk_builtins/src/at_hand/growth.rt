@@ -21,8 +21,9 @@ ghost use Rattle.std.specs.Prelude.{true, ◌++◌, ◌+◌, ◌∷◌, ◌≡�
 
 use crate::at_hand::tests::chosen;
 use crate::at_hand::values::{MOST_LEVELS, at_hand, value_at_hand};
-use crate::shown::without_convfmt;
+use crate::shown::operand_of;
 use awk_program::{Expr, Joined, Target, Variable};
+use awk_store::shown::usual_text;
 use awk_store::values::into_text;
 use awk_store::{Store, is_nf};
 use awk_streams::halt::Halt;
@@ -55,14 +56,14 @@ fn add_made(store: &Store, e: &Expr, room: usize, texts: &mut Vec<u8>) -> Result
         (λ added. added ≡ true → (text : List ℕ) × (texts.new.items ≡ texts.old.items ++ text)
         × ((g : Given) (t : Table) → Lends g (store.now, t) (view (names_in g) e.now) text)) }
 {
-    let Some(made) = without_convfmt(store, e) else {
-        return Ok(false);
-    };
-    let Some(value) = value_at_hand(*texts.allocator(), store, made) else {
+    let Some(value) = value_at_hand(*texts.allocator(), store, operand_of(e)) else {
         return Ok(false);
     };
     let mut buffer = Buffer::new();
-    let added = add_bytes(text_in(&value, &mut buffer), room, texts)?;
+    let Some(text) = usual_text(store, &value, &mut buffer) else {
+        return Ok(false);
+    };
+    let added = add_bytes(text, room, texts)?;
     Ok(added)
 }
 
@@ -207,10 +208,7 @@ fn grown(
     ensures err { IfErr result (λ h. h ≡ Halt.Memory) }
     ensures used { store.new.used ≡ store.old.used }
 {
-    let Some(read) = without_convfmt(store, first) else {
-        return Ok(false);
-    };
-    if !reads_variable(read, to) {
+    if !reads_variable(operand_of(first), to) {
         return Ok(false);
     }
     let Some(room) = room_behind(store, to) else {
@@ -308,8 +306,7 @@ pub fn text_to_grow<'a>(store: &mut Store, to: Variable, x: &'a Expr) -> Option<
     let Expr::Concat(first, rest) = x else {
         return None;
     };
-    let read = without_convfmt(store, first.get())?;
-    if !reads_variable(read, to) {
+    if !reads_variable(operand_of(first.get()), to) {
         return None;
     }
     let text = long_text(store, to)?;

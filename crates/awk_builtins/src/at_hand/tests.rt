@@ -9,6 +9,7 @@ ghost use Rattle.awk_program.specs.View.{Names, variable_of, view, view_ere};
 ghost use Rattle.awk_store.specs.Acts.{Acts};
 ghost use Rattle.awk_streams.specs.Tables.{Table};
 ghost use Rattle.awk_text.specs.Lents.{lent_value};
+ghost use Rattle.awk_text.specs.declared.place.Place as spot_of;
 ghost use Rattle.awk_text.specs.declared.value.Value.TheVariants as v;
 ghost use Rattle.awk_text.specs.declared.value.Value.{Value as Val};
 ghost use Rattle.std.specs.Prelude.{IfSome, map, ◌∷◌};
@@ -16,6 +17,7 @@ ghost use Rattle.std.specs.Prelude.{IfSome, map, ◌∷◌};
 use crate::at_hand::records::{is_keyed_by_field, is_unsplit, split_record, wants_split};
 use crate::at_hand::values::{MOST_LEVELS, at_hand, counted_there, plain_number};
 use crate::cache::Patterns;
+use crate::comparisons::compared_there;
 use crate::operators::{compared_lent, compared_numbers};
 use crate::patterns::{check, matches};
 use awk_program::{Comparison, Expr, Pattern, Variable};
@@ -30,8 +32,8 @@ use std::alloc::Global;
 #[inline(never)]
 fn compared_beside(store: &Store, how: Comparison, left: i64, y: &Expr) -> Option<bool>
     ensures { IfSome result
-        (λ b. (x : Names → p.Expression) → IsThere x store.now (v.Num left) →
-        HasTruth (λ names. p.compare how (x names) (view names y.now)) store.now b) }
+        (λ b. (q : spot_of.Place) (x : Names → p.Expression) → IsThere x store.now (v.Num left) →
+        HasTruth (λ names. p.compare q how (x names) (view names y.now)) store.now b) }
 {
     let right = at_hand(store, y, MOST_LEVELS)?;
     Some(compared_lent(store.numbers(), how, Lent::Num(left), right))
@@ -41,8 +43,8 @@ fn compared_beside(store: &Store, how: Comparison, left: i64, y: &Expr) -> Optio
 #[inline(never)]
 fn compared_with(store: &Store, how: Comparison, left: i64, y: &Expr) -> Option<bool>
     ensures { IfSome result
-        (λ b. (x : Names → p.Expression) → IsThere x store.now (v.Num left) →
-        HasTruth (λ names. p.compare how (x names) (view names y.now)) store.now b) }
+        (λ b. (q : spot_of.Place) (x : Names → p.Expression) → IsThere x store.now (v.Num left) →
+        HasTruth (λ names. p.compare q how (x names) (view names y.now)) store.now b) }
 {
     if let Some(right) = counted_there(store, y) {
         return Some(compared_numbers(how, left, right));
@@ -53,17 +55,19 @@ fn compared_with(store: &Store, how: Comparison, left: i64, y: &Expr) -> Option<
 /// Whether a comparison holds, where both sides are there.
 #[inline(never)]
 fn compared_values(store: &Store, how: Comparison, x: &Expr, y: &Expr) -> Option<bool>
-    ensures { IfSome result (λ b. HasTruth (λ names. p.compare how (view names x.now) (view names y.now)) store.now b) }
+    ensures { IfSome result (λ b. (q : spot_of.Place) →
+        HasTruth (λ names. p.compare q how (view names x.now) (view names y.now)) store.now b) }
 {
     let left = at_hand(store, x, MOST_LEVELS)?;
     let right = at_hand(store, y, MOST_LEVELS)?;
-    Some(compared_lent(store.numbers(), how, left, right))
+    compared_there(store, how, left, right)
 }
 
 /// The same. Two numbers that stand ready are compared in line.
 #[inline(always)]
 fn compared_at_hand(store: &Store, how: Comparison, x: &Expr, y: &Expr) -> Option<bool>
-    ensures { IfSome result (λ b. HasTruth (λ names. p.compare how (view names x.now) (view names y.now)) store.now b) }
+    ensures { IfSome result (λ b. (q : spot_of.Place) →
+        HasTruth (λ names. p.compare q how (view names x.now) (view names y.now)) store.now b) }
 {
     let Some(left) = plain_number(store, x) else {
         return compared_values(store, how, x, y);
@@ -93,7 +97,7 @@ fn part_is_true(store: &Store, e: &Expr) -> Option<bool>
     ensures { IfSome result (λ b. HasTruth (λ names. view names e.now) store.now b) }
 {
     match e {
-        Expr::Compare(how, x, y) => compared_at_hand(store, *how, x.get(), y.get()),
+        Expr::Compare(_, how, x, y) => compared_at_hand(store, *how, x.get(), y.get()),
         Expr::In(x, arrays) => member_at_hand(store, x.get(), arrays.as_slice()),
         Expr::Read(_)
         | Expr::Number(_)
@@ -186,7 +190,7 @@ pub fn truth_at_hand(store: &Store, e: &Expr) -> Option<bool>
     if let Expr::Pattern(_, _) = e {
         return None;
     }
-    if let Expr::Compare(how, x, y) = e {
+    if let Expr::Compare(_, how, x, y) = e {
         return compared_at_hand(store, *how, x.get(), y.get());
     }
     if let Some(holds) = plain_is_true(store, e) {
@@ -252,7 +256,7 @@ pub fn matched_at_hand(
 /// Whether a side of a comparison, the key of a step, or what else is tested is at hand only once the record is split.
 fn part_wants_split(e: &Expr) -> bool {
     match e {
-        Expr::Compare(_, x, y) => wants_split(x.get()) || wants_split(y.get()),
+        Expr::Compare(_, _, x, y) => wants_split(x.get()) || wants_split(y.get()),
         Expr::Step(_, _, _, target) => is_keyed_by_field(target),
         _ => wants_split(e),
     }
@@ -274,7 +278,7 @@ fn chain_wants_split(e: &Expr) -> bool {
 #[inline(always)]
 fn test_wants_split(e: &Expr) -> bool {
     match e {
-        Expr::Compare(_, x, y) => wants_split(x.get()) || wants_split(y.get()),
+        Expr::Compare(_, _, x, y) => wants_split(x.get()) || wants_split(y.get()),
         _ => chain_wants_split(e),
     }
 }

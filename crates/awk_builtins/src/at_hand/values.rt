@@ -17,10 +17,10 @@ ghost use Rattle.std.specs.Prelude.{IfSome, Ok, Some, false, length, map, ◌≡
 
 use crate::functions::{cased, index_of, part_of, text_length};
 use crate::operators::operation;
-use crate::shown::without_convfmt;
 use awk_fields::row::LEAST_SHARED;
 use awk_numbers::number::{Number, Numbers};
 use awk_program::{Builtin, Expr, Target, Term, Variable};
+use awk_store::shown::unless_shown;
 use awk_store::{Store, is_nf};
 use awk_text::buffer::Buffer;
 use awk_text::lent::{Lent, few_digits};
@@ -356,9 +356,9 @@ fn made_at_hand<'a>(store: &'a Store, e: &'a Expr, level: u32) -> Option<Lent<'a
 {
     match e {
         Expr::Builtin(_, which, args) => called_at_hand(store, *which, args.as_slice(), level),
-        Expr::AsText(_, _) => {
-            let x = without_convfmt(store, e)?;
-            at_hand(store, x, level)
+        Expr::AsText(_, x) => {
+            let value = at_hand(store, x.get(), level)?;
+            unless_shown(store, value)
         }
         Expr::Count(_) => {
             let count = count_at_hand(store, e)?;

@@ -5,8 +5,8 @@ use Rattle.std.specs.Prelude.{All}
 use Rattle.std.specs.List.{sum_by}
 use Rattle.awk_text.specs.Limits.{most_bytes}
 use Rattle.awk_text.specs.declared.value.Value.TheVariants.{Unset}
-use Rattle.awk_fields.specs.Edits.{IsPartOf, part_bytes, value_of}
-use Rattle.awk_fields.specs.Rows.{joined, with_field}
+use Rattle.awk_fields.specs.Edits.{IsPartOf, part_bytes, field_of}
+use Rattle.awk_fields.specs.Rows.{rebuilt, with_field}
 use Rattle.awk_fields.specs.declared.part.Part.{Part}
 use Rattle.awk_fields.specs.declared.part.Part.TheVariants.{Own}
 use Rattle.awk_fields.proofs.EditLemmas.{map_put, put_all}
@@ -17,11 +17,11 @@ pub returns-in_err-fit-clause-fault : goal.returns-in_err-fit-clause-fault
 returns-in_err-fit-clause-fault c =
     let text = c.args.text.now in
     let parts = c.args.edited.now.parts.items in
-    let bytes = put_bytes text parts c.args.at c.args.value c.args.edited.now.bytes c.len_at.result c.value_len.result
+    let bytes = put_bytes text parts c.args.at c.args.part c.args.edited.now.bytes c.len_at.result c.part_len.result
     c.requires.sound.bytes_are
     (c.len_at.ensures ∙ ap (λ (ps : List Part). part_bytes text (get_or ps c.args.at (Own Unset)))
-    c.as_slice.ensures.value) c.value_len.ensures in
-    let total = put_whole text c.args.ofs.now parts c.args.at c.args.value _ c.max-count.result (length c.args.ofs.now)
+    c.as_slice.ensures.value) c.part_len.ensures in
+    let total = put_whole text c.args.ofs.now parts c.args.at c.args.part _ c.max-count.result (length c.args.ofs.now)
     bytes (omega (arith, c.max-count.ensures, c.len.ensures, c.args.edited.now.parts.ok)) refl in
     let p = err_from_is_err_and c.from_residual.result c.from_residual.ensures.1 in
     rw (p.1, p.2) (inr (
@@ -34,22 +34,22 @@ returns-clause-ok c =
     let text = c.args.text.now in
     let ofs = c.args.ofs.now in
     let parts = c.args.edited.now.parts.items in
-    let value = c.args.value in
-    let bytes = put_bytes text parts c.args.at value c.args.edited.now.bytes c.len_at.result c.value_len.result
+    let part = c.args.part in
+    let bytes = put_bytes text parts c.args.at part c.args.edited.now.bytes c.len_at.result c.part_len.result
     c.requires.sound.bytes_are
     (c.len_at.ensures ∙ ap (λ (ps : List Part). part_bytes text (get_or ps c.args.at (Own Unset)))
-    c.as_slice.ensures.value) c.value_len.ensures in
-    let total = put_whole text ofs parts c.args.at value _ c.max-count.result (length ofs) bytes
+    c.as_slice.ensures.value) c.part_len.ensures in
+    let total = put_whole text ofs parts c.args.at part _ c.max-count.result (length ofs) bytes
     (omega (arith, c.max-count.ensures, c.len.ensures, c.args.edited.now.parts.ok)) refl in
-    let values : map (value_of text) (set c.prepare.new.parts.items c.args.at (Own value))
-    ≡ with_field (map (value_of text) parts) c.args.at value =
-    ap (λ (ps : List Part). map (value_of text) (set ps c.args.at (Own value))) c.in_ok-prepare.ensures.parts
-    ∙ map_put (value_of text) parts c.args.at (Own value) (Own Unset) value refl refl in
+    let fields : map (field_of text) (set c.prepare.new.parts.items c.args.at part)
+    ≡ with_field (map (field_of text) parts) c.args.at (field_of text part) =
+    ap (λ (ps : List Part). map (field_of text) (set ps c.args.at part)) c.in_ok-prepare.ensures.parts
+    ∙ map_put (field_of text) parts c.args.at part (Own Unset) refl in
     record {
-      values_are = values;
-      whole_is = ap (λ (o : List ℕ). joined o
-          (map (value_of text) (set c.prepare.new.parts.items c.args.at (Own value)))) c.in_ok-prepare.ensures.ofs
-          ∙ ap (joined ofs) values;
+      fields_are = fields;
+      whole_is = ap (λ (o : List ℕ). rebuilt o
+          (map (field_of text) (set c.prepare.new.parts.items c.args.at part))) c.in_ok-prepare.ensures.ofs
+          ∙ ap (rebuilt ofs) fields;
       fits = subst (λ n. n ≤ most_bytes) (sym total) c.in_ok-fit.ensures.fits;
     }
 
@@ -57,16 +57,16 @@ pub returns-clause-sound : goal.returns-clause-sound
 returns-clause-sound c =
     let text = c.args.text.now in
     let parts = c.args.edited.now.parts.items in
-    let value = c.args.value in
-    let bytes = put_bytes text parts c.args.at value c.args.edited.now.bytes c.len_at.result c.value_len.result
+    let part = c.args.part in
+    let bytes = put_bytes text parts c.args.at part c.args.edited.now.bytes c.len_at.result c.part_len.result
     c.requires.sound.bytes_are
     (c.len_at.ensures ∙ ap (λ (ps : List Part). part_bytes text (get_or ps c.args.at (Own Unset)))
-    c.as_slice.ensures.value) c.value_len.ensures in
-    let set_is : put_parts parts c.args.at value ≡ set c.prepare.new.parts.items c.args.at (Own value) =
-    ap (λ (ps : List Part). set ps c.args.at (Own value)) (sym c.in_ok-prepare.ensures.parts) in
+    c.as_slice.ensures.value) c.part_len.ensures in
+    let set_is : put_parts parts c.args.at part ≡ set c.prepare.new.parts.items c.args.at part =
+    ap (λ (ps : List Part). set ps c.args.at part) (sym c.in_ok-prepare.ensures.parts) in
     record {
       within = subst (λ ps. All (IsPartOf text) ps) set_is (put_all (IsPartOf text) parts (c.args.at + 1 - length parts)
-          c.args.at (Own value) (Own Unset) tt tt c.requires.sound.within);
+          c.args.at part (Own Unset) tt c.requires.within c.requires.sound.within);
       bytes_are = bytes ∙ ap (sum_by (part_bytes text)) set_is;
       small = let fits = c.in_ok-fit.ensures.fits in omega arith;
     }

@@ -5,8 +5,8 @@ use Rattle.std.specs.Prelude.{All}
 use Rattle.std.specs.List.{sum_by}
 use Rattle.awk_text.specs.Limits.{most_bytes}
 use Rattle.awk_text.specs.declared.value.Value.TheVariants.{Unset}
-use Rattle.awk_fields.specs.Edits.{IsPartOf, part_bytes, value_of}
-use Rattle.awk_fields.specs.Rows.{joined, with_count}
+use Rattle.awk_fields.specs.Edits.{IsPartOf, part_bytes, field_of}
+use Rattle.awk_fields.specs.Rows.{rebuilt, with_count}
 use Rattle.awk_fields.specs.declared.part.Part.{Part}
 use Rattle.awk_fields.specs.declared.part.Part.TheVariants.{Own}
 use Rattle.awk_fields.proofs.EditLemmas.{count_all, map_count}
@@ -58,12 +58,12 @@ returns-clause-ok c =
     let total = count_whole text ofs parts c.args.count _ (length ofs) bytes refl in
     let now : c.truncate.new.self.items ≡ count_parts parts c.args.count = c.truncate.ensures.items
     ∙ ap (take c.args.count) c.in_ok-prepare.ensures.parts in
-    let values : map (value_of text) c.truncate.new.self.items ≡ with_count (map (value_of text) parts) c.args.count =
-    ap (map (value_of text)) now ∙ map_count (value_of text) parts c.args.count (Own Unset) refl in
+    let fields : map (field_of text) c.truncate.new.self.items ≡ with_count (map (field_of text) parts) c.args.count =
+    ap (map (field_of text)) now ∙ map_count (field_of text) parts c.args.count (Own Unset) refl in
     record {
-      values_are = values;
-      whole_is = ap (λ (o : List ℕ). joined o (map (value_of text) c.truncate.new.self.items))
-          c.in_ok-prepare.ensures.ofs ∙ ap (joined ofs) values;
+      fields_are = fields;
+      whole_is = ap (λ (o : List ℕ). rebuilt o (map (field_of text) c.truncate.new.self.items))
+          c.in_ok-prepare.ensures.ofs ∙ ap (rebuilt ofs) fields;
       fits = subst (λ n. n ≤ most_bytes) (sym total) c.in_ok-fit.ensures.fits;
     }
 

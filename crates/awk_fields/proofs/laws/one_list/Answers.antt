@@ -4,5 +4,5 @@ use Rattle.awk_fields.proofs.laws.one_list.Goals as goal
 pub returns-clause-texts : goal.returns-clause-texts
 returns-clause-texts c = alone.one_list
 
-pub returns-clause-values : goal.returns-clause-values
-returns-clause-values c = alone.one_row
+pub returns-clause-fields : goal.returns-clause-fields
+returns-clause-fields c = alone.one_row

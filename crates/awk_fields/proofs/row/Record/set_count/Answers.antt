@@ -3,9 +3,9 @@ use Rattle.std.proofs.lemmas.Result.{err_from_is_err_and, on_err_weaker, on_ok_w
 use Rattle.std.specs.Prelude.{IfErr, OnOk, OnErr}
 use Rattle.awk_text.specs.Limits.{most_bytes}
 use Rattle.awk_text.specs.declared.fault.Fault.TheVariants.{Memory, TextTooLong}
-use Rattle.awk_fields.specs.Edits.{AreSet, IsSame, edited_values}
+use Rattle.awk_fields.specs.Edits.{AreSet, IsSame, edited_fields}
 use Rattle.awk_fields.specs.Parts.{ArePartsKept, row_of}
-use Rattle.awk_fields.specs.Rows.{joined, place_of, with_count}
+use Rattle.awk_fields.specs.Rows.{place_of, rebuilt, with_count}
 use Rattle.awk_fields.proofs.RowLemmas.{if_err_weaker, kept_same, sets_count, sets_no_count}
 use Rattle.awk_fields.proofs.row.Record.set_count.Goals as goal
 
@@ -26,7 +26,7 @@ returns-clause-ok c =
     (λ set. sets_count text c.args.ofs.now (row_of text c.self.inside.parts) parts c.set_len.new.edited c.args.n
     c.in_ok-count.count kept c.in_ok-edit_parts.ensures.edits place_is set)
     (subst (λ (t : List ℕ). OnOk c.set_len.result
-    (AreSet t c.args.ofs.now (with_count (edited_values t c.edit_parts.new.parts.edited) c.in_ok-count.count)
+    (AreSet t c.args.ofs.now (with_count (edited_fields t c.edit_parts.new.parts.edited) c.in_ok-count.count)
     c.set_len.new.edited)) c.bytes-2.ensures c.set_len.ensures.ok))
 
 pub returns-clause-err : goal.returns-clause-err
@@ -53,5 +53,5 @@ returns-clause-fault c =
     fault kept c.in_ok-edit_parts.ensures.edits place_is why)
     (subst (λ (t : List ℕ). IfErr c.set_len.result (λ e. (e ≡ Memory)
     ⊎ ((e ≡ TextTooLong) ×
-    (most_bytes < length (joined c.args.ofs.now (with_count (edited_values t c.edit_parts.new.parts.edited)
+    (most_bytes < length (rebuilt c.args.ofs.now (with_count (edited_fields t c.edit_parts.new.parts.edited)
     c.in_ok-count.count)))))) c.bytes-2.ensures c.set_len.ensures.fault))

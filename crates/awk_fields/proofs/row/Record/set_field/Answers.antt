@@ -3,9 +3,9 @@ use Rattle.std.proofs.lemmas.Result.{err_from_is_err_and, on_err_weaker, on_ok_w
 use Rattle.std.specs.Prelude.{IfErr, OnOk, OnErr}
 use Rattle.awk_text.specs.Limits.{most_bytes}
 use Rattle.awk_text.specs.declared.fault.Fault.TheVariants.{Memory, TextTooLong}
-use Rattle.awk_fields.specs.Edits.{AreSet, IsSame, edited_values}
+use Rattle.awk_fields.specs.Edits.{AreSet, IsSame, edited_fields}
 use Rattle.awk_fields.specs.Parts.{ArePartsKept, row_of}
-use Rattle.awk_fields.specs.Rows.{joined, field_place, with_field}
+use Rattle.awk_fields.specs.Rows.{field_place, plain, rebuilt, with_field}
 use Rattle.awk_fields.proofs.RowLemmas.{if_err_weaker, kept_same, sets_field, sets_no_field}
 use Rattle.awk_fields.proofs.row.Record.set_field.Goals as goal
 
@@ -24,10 +24,10 @@ returns-clause-ok c =
     let place_is = sym (c.in_ok-at.ensures.place ∙ ap field_place (to_z-of_z c.ranges.n)) in
     rw (← c.self.view_is) (on_ok_weaker c.put.result
     (λ set. sets_field text c.args.ofs.now (row_of text c.self.inside.parts) parts c.put.new.edited c.args.n
-    c.in_ok-at.at c.args.value kept c.in_ok-edit_parts.ensures.edits place_is set)
+    c.in_ok-at.at (plain c.args.value) kept c.in_ok-edit_parts.ensures.edits place_is set)
     (subst (λ (t : List ℕ). OnOk c.put.result
-    (AreSet t c.args.ofs.now (with_field (edited_values t c.edit_parts.new.parts.edited) c.in_ok-at.at c.args.value)
-    c.put.new.edited)) c.bytes-2.ensures c.put.ensures.ok))
+    (AreSet t c.args.ofs.now (with_field (edited_fields t c.edit_parts.new.parts.edited) c.in_ok-at.at
+    (plain c.args.value)) c.put.new.edited)) c.bytes-2.ensures c.put.ensures.ok))
 
 pub returns-clause-err : goal.returns-clause-err
 returns-clause-err c =
@@ -50,8 +50,8 @@ returns-clause-fault c =
     let place_is = sym (c.in_ok-at.ensures.place ∙ ap field_place (to_z-of_z c.ranges.n)) in
     rw (← c.self.view_is) (if_err_weaker c.put.result
     (λ fault why. sets_no_field text c.args.ofs.now (row_of text c.self.inside.parts) parts c.args.n c.in_ok-at.at
-    c.args.value fault kept c.in_ok-edit_parts.ensures.edits place_is why)
+    (plain c.args.value) fault kept c.in_ok-edit_parts.ensures.edits place_is why)
     (subst (λ (t : List ℕ). IfErr c.put.result (λ e. (e ≡ Memory)
     ⊎ ((e ≡ TextTooLong) ×
-    (most_bytes < length (joined c.args.ofs.now (with_field (edited_values t c.edit_parts.new.parts.edited)
-    c.in_ok-at.at c.args.value)))))) c.bytes-2.ensures c.put.ensures.fault))
+    (most_bytes < length (rebuilt c.args.ofs.now (with_field (edited_fields t c.edit_parts.new.parts.edited)
+    c.in_ok-at.at (plain c.args.value))))))) c.bytes-2.ensures c.put.ensures.fault))
