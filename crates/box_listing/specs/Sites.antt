@@ -69,7 +69,7 @@ abbrev mutual
   value (p.as_text place x) = value x
   value (p.chain x xs) = value x ++ terms xs
   value (p.concat x xs) = value x ++ joins xs
-  value (p.compare how x y) = value x ++ value y
+  value (p.compare place how x y) = value x ++ value y
   value (p.matched place x y) = value x ++ ere y
   value (p.member x arrays) = value x
   value (p.group place xs arrays) = each xs

@@ -36,7 +36,7 @@ pub fn constant(e: &Expr) -> Option<&Octets>
         | Expr::AsText(_, _)
         | Expr::Chain(_, _)
         | Expr::Concat(_, _)
-        | Expr::Compare(_, _, _)
+        | Expr::Compare(_, _, _, _)
         | Expr::Match(_, _, _)
         | Expr::In(_, _)
         | Expr::Group(_, _, _)
@@ -170,7 +170,7 @@ fn expression(alloc: Global, e: &Expr, level: u64, out: &mut Vec<Found>) -> Resu
             expression(alloc, x.get(), below, out)?;
             joins(alloc, xs.as_slice(), below, out)
         }
-        Expr::Compare(_how, x, y) => two(alloc, x.get(), y.get(), below, out),
+        Expr::Compare(_place, _how, x, y) => two(alloc, x.get(), y.get(), below, out),
         Expr::Match(_place, x, y) => value_and_ere(alloc, x.get(), y, below, out),
         Expr::In(x, _arrays) => expression(alloc, x.get(), below, out),
         Expr::Group(_place, xs, _arrays) => each(alloc, xs.as_slice(), below, out),
