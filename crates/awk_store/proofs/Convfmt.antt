@@ -1,5 +1,6 @@
 -- What CONVFMT makes of values, by the machine's state and by the store, and where it changes no text.
 use Rattle.std.proofs.Common.{◌≡◌, ap, refl, true}
+use Rattle.std.specs.Float.{Float}
 use Rattle.std.specs.Prelude.{Ok}
 use Rattle.awk_format.specs.NumberTexts.{is_usual, value_by}
 use Rattle.awk_text.specs.declared.value.Value.{Value}
@@ -25,3 +26,11 @@ usual_stays kept (v.Num n) e = refl
 usual_stays kept (v.Real x) e = rw e refl
 usual_stays kept (v.Text x) e = refl
 usual_stays kept (v.Input x) e = refl
+
+-- and so does what is no number with a fraction
+pub stays_unless : (kept : Kept) (x : Value) → ((y : Float) → x ≡ v.Real y → ⊥) → by_convfmt kept x ≡ Ok x
+stays_unless kept v.Unset none = refl
+stays_unless kept (v.Num n) none = refl
+stays_unless kept (v.Real y) none = absurd (none y refl)
+stays_unless kept (v.Text x) none = refl
+stays_unless kept (v.Input x) none = refl

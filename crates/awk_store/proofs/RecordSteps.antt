@@ -20,7 +20,7 @@ use Rattle.awk_machine.specs.Pieces as machine
 use Rattle.awk_machine.specs.Pieces.{Piece, Do, Get, Set, Whole as SetWhole, Check, Rebuild, Goes, Seeks, give, granted, ends}
 use Rattle.awk_machine.specs.Pieces.{Faulted}
 use Rattle.awk_machine.specs.Questions.{Fields, Spells, Is, These, these, yes}
-use Rattle.awk_machine.specs.Advances.{advance}
+use Rattle.awk_machine.specs.Advances.{advance, held}
 use Rattle.awk_machine.specs.State.{Course, Given}
 use Rattle.awk_machine.specs.Streams.{seen}
 use Rattle.awk_machine.specs.Targets.{check_separator, set_shown}
@@ -85,9 +85,10 @@ module _ (g : Given) (old : Whole) where
 module _ (g : Given) (old : Whole) (place : Place) (n : ℕ) (val : Value) where
   pub showing : (shown : Value) → kept.by_convfmt old.0 val ≡ Ok shown → (k : List Piece) (hid : Hidden) (c : Course)
       → Agreeing g old hid c → advance g (Do (Set (machine.Field n) place val) ∷ k) (seen (base g old hid) c)
-      ≡ set_shown n place val shown k (seen (base g old hid) c)
+      ≡ held g (seen (base g old hid) c) (set_shown n place val shown k (seen (base g old hid) c))
   showing shown is k hid c a =
-      ap (λ made. granted place made (set_shown n place val) k (seen (base g old hid) c))
+      ap (λ made. held g (seen (base g old hid) c)
+      (granted place made (set_shown n place val) k (seen (base g old hid) c)))
       (convfmt-so g old hid c a val ∙ is)
 
   -- no text was made
@@ -107,7 +108,8 @@ module _ (g : Given) (old : Whole) (place : Place) (n : ℕ) (val : Value) where
           ⊎ Passes g (Do (Set (machine.Field n) place val)) old (λ k. ends (Faulted met place)) old
       why_so (inl m) = inl m
       why_so (inr is) = inr (moves (at_rest _ old)
-          (λ k hid c a. ap (λ made. granted place made (set_shown n place val) k (seen (base g old hid) c))
+          (λ k hid c a. ap (λ made. held g (seen (base g old hid) c)
+          (granted place made (set_shown n place val) k (seen (base g old hid) c)))
           (convfmt-so g old hid c a val ∙ is)))
 
 -- ---- the whole record is set

@@ -6,7 +6,7 @@ ghost use Rattle.awk_store.specs.Kept.{by_convfmt, own_text};
 ghost use Rattle.awk_text.specs.Lents.{lent_value};
 ghost use Rattle.awk_text.specs.Values.{text_of};
 ghost use Rattle.awk_text.specs.declared.value.Value.TheVariants as v;
-ghost use Rattle.std.specs.Prelude.{Err, IfErr, IfOk, IfSome, Ok, true, ◌×◌, ◌≡◌, ◌⊎◌};
+ghost use Rattle.std.specs.Prelude.{Err, IfErr, IfOk, IfSome, Ok, true, ◌≡◌, ◌⊎◌};
 
 use crate::Store;
 use crate::values::into_text;
@@ -90,8 +90,8 @@ pub fn is_usual_by(store: &Store, name: Own) -> bool
 /// memory.
 #[inline(always)]
 pub fn unless_shown<'a>(store: &Store, value: Lent<'a>) -> Option<Lent<'a>>
-    ensures same { IfSome result (λ it. it ≡ value.entry) }
-    ensures stays { IfSome result (λ it. by_convfmt store.now (lent_value value.entry) ≡ Ok (lent_value value.entry)) }
+    ensures { IfSome result (λ it. (lent_value it ≡ lent_value value.entry)
+        × (by_convfmt store.now (lent_value value.entry) ≡ Ok (lent_value value.entry))) }
 {
     if let Lent::Real(_) = value {
         if !is_usual_by(store, Own::Convfmt) {
@@ -103,8 +103,8 @@ pub fn unless_shown<'a>(store: &Store, value: Lent<'a>) -> Option<Lent<'a>>
 
 /// The text of a value, lent, unless CONVFMT makes another one. A number's is written into the buffer. Takes no memory.
 pub fn usual_text<'a>(store: &Store, value: &'a Value, buffer: &'a mut Buffer) -> Option<&'a [u8]>
-    ensures is { IfSome result (λ text. text.now ≡ text_of value.now) }
-    ensures stays { IfSome result (λ text. by_convfmt store.now value.now ≡ Ok value.now) }
+    ensures { IfSome result
+        (λ text. (text.now ≡ text_of value.now) × (by_convfmt store.now value.now ≡ Ok value.now)) }
 {
     if let Value::Real(_) = value {
         if !is_usual_by(store, Own::Convfmt) {
