@@ -35,7 +35,7 @@ use Rattle.awk_machine.specs.Pieces.{Part, Value_of, Target_of, Terms_of, Texts_
 use Rattle.awk_machine.specs.Pieces.{Pipes_of, Piece, At, Do, Goes, Then, give, granted}
 use Rattle.awk_machine.specs.State.{State}
 use Rattle.awk_machine.specs.Targets.{target, store}
-use Rattle.awk_machine.specs.Variables.{own_text}
+use Rattle.awk_machine.specs.Variables.{own_text, by_convfmt}
 use Rattle.awk_fields.specs.Rows.{joined}
 use Rattle.awk_fields.specs.Separators.{separator}
 use Rattle.box_listing.specs.Sites as s
@@ -298,7 +298,11 @@ module _ (S : Listed) where
       (back S (s.value y) (s.target r) (back S (s.ere x) (s.value y ++ s.target r) h)) h (λ y says. tt) rest
   substituted place how x y r (at ∷ new ∷ pattern ∷ []) k t h rest = looked S x place (text_of pattern) _
       (tt, (h, λ y says. tt, rest))
-  substituted place how x y r (old ∷ at ∷ new ∷ pattern ∷ vs) k t h rest = (tt, rest)
+  substituted place how x y r (old ∷ at ∷ new ∷ pattern ∷ vs) k t h rest =
+      through S place (by_convfmt t old)
+      (λ shown k s. Goes (Do (m.Substitute place (target r at) (text_of pattern) (text_of new) (text_of shown)
+      (built.is_all how)) ∷ k) s) k t
+      (λ shown. (tt, rest))
 
   parted : (y : Ere) (place at : Place) (a : p.Variable) (text by : Text) (k : List Piece) → Stack S (hands None) k
       → Ready S (built.split_by y place at a text by k)
@@ -337,11 +341,11 @@ module _ (S : Listed) where
       (back S (s.value x) (s.terms xs) h) (λ y says. tt) rest
   values (p.concat x xs) vs k t h n rest = push_value S x (Texts_of xs) [] k (front S (s.value x) (s.joins xs) h)
       (back S (s.value x) (s.joins xs) h) (λ y says. tt) rest
-  values (p.compare how x y) vs k t h n rest =
-      two S (value x) (value y) _ _ vs k t (push_value S x (Value_of (p.compare how x y)) [] k
+  values (p.compare place how x y) vs k t h n rest =
+      two S (value x) (value y) _ _ vs k t (push_value S x (Value_of (p.compare place how x y)) [] k
       (front S (s.value x) (s.value y) h) h (λ y says. tt) rest)
-      (λ z. push_value S y (Value_of (p.compare how x y)) (z ∷ []) k (back S (s.value x) (s.value y) h) h (λ y says. tt)
-      rest) (λ z u. hand S None _ k tt rest)
+      (λ z. push_value S y (Value_of (p.compare place how x y)) (z ∷ []) k (back S (s.value x) (s.value y) h) h
+      (λ y says. tt) rest) (λ z u. delivered S place _ k t rest)
   values (p.matched place x y) vs k t h n rest =
       two S (value x) (source y) _ _ vs k t (push_value S x (Value_of (p.matched place x y)) [] k
       (front S (s.value x) (s.ere y) h) h (λ y says. tt) rest)

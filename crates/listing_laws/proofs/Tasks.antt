@@ -13,7 +13,8 @@ use Rattle.awk_text.specs.Arithmetic as on
 use Rattle.awk_text.specs.Arithmetic.{whole_of}
 use Rattle.awk_text.specs.Values.{text_of, number_of, of_number, truth}
 use Rattle.awk_fields.specs.Heads.{Head, taken, need_more, done, too_long}
-use Rattle.awk_fields.specs.Rows.{joined, known, place_of, with_count, unsplit}
+use Rattle.awk_fields.specs.Rows as row
+use Rattle.awk_fields.specs.Rows.{rebuilt, known, place_of, with_count, unsplit, blank}
 use Rattle.awk_fields.specs.Separators.{separator}
 use Rattle.awk_format.specs.Directives.{◌>>=◌}
 use Rattle.awk_lib.specs.Arrays.{element, put}
@@ -49,7 +50,7 @@ use Rattle.awk_machine.specs.State.{State, Given, Bound, Phase, Beginning, Rulin
 use Rattle.awk_machine.specs.Statements as st
 use Rattle.awk_machine.specs.Targets as to
 use Rattle.awk_machine.specs.Variables.{is_nf, variable, own_text, own_value, with_variable, with_own, array, array_at}
-use Rattle.awk_machine.specs.Variables.{with_array}
+use Rattle.awk_machine.specs.Variables.{with_array, by_convfmt}
 use Rattle.box_listing.specs.declared.site.Found.TheVariants as found
 use Rattle.box_listing.specs.Listings.{at_start}
 use Rattle.box_listing.specs.Sites as s
@@ -61,9 +62,9 @@ module _ (S : Listed) where
   -- ---- reading and setting
 
   gets_by : (b : Bool) (a : p.Variable) (k : List Piece) (t : State) → Stack S (hands None) k →
-      Keeps S (if b then Seeks (q.Fields t.row) (λ fields. give (of_count (length (q.values fields))) k) t else Goes
+      Keeps S (if b then Seeks (q.Fields t.row) (λ a. give (of_count (length (q.these a))) k) t else Goes
       (give (variable t a) k) t)
-  gets_by true a k t rest = λ x. hand S None (of_count (length (q.values x))) k tt rest
+  gets_by true a k t rest = λ x. hand S None (of_count (length (q.these x))) k tt rest
   gets_by false a k t rest = hand S None (variable t a) k tt rest
 
   gets_element : (o : Option Value) (a : p.Variable) (key : Text) (place : Place) (k : List Piece) (t : State)
@@ -77,7 +78,7 @@ module _ (S : Listed) where
   gets (m.Variable a) k t rest = gets_by (is_nf a) a k t rest
   gets (m.Element a key place) k t rest = gets_element (element (array t a) key) a key place k t rest
   gets (m.Field zero) k t rest = hand S None (v.Input t.row.whole) k tt rest
-  gets (m.Field (suc n)) k t rest = λ a. hand S None (slice_index_or (q.values a) n v.Unset) k tt rest
+  gets (m.Field (suc n)) k t rest = λ a. hand S None (slice_index_or (q.these a) n blank).value k tt rest
 
   separated : (place : Place) (by : Text) (k : List Piece) → Ready S k → Ready S (to.check_separator place by k)
   separated place by k h = ready_if S (nat_lt 1 (length by)) (Do (m.Check place by) ∷ k) k (tt, h) h
@@ -85,7 +86,7 @@ module _ (S : Listed) where
   sets_nf : (place : Place) (x : Value) (k : List Piece) (t : State) → Ready S k → Keeps S (to.set_nf place x k t)
   sets_nf place x k t rest =
       through S place (number_of t.numbers x >>= λ y. whole_of y >>= place_of)
-      (λ n k s. Seeks (q.Fields s.row) (λ a. Do (m.Rebuild place (with_count (q.values a) n)) ∷ k) s) k t
+      (λ n k s. Seeks (q.Fields s.row) (λ a. Do (m.Rebuild place (with_count (q.these a) n)) ∷ k) s) k t
       (λ n a. (tt, rest))
 
   sets_by : (b : Bool) (a : p.Variable) (place : Place) (x : Value) (k : List Piece) (t : State) → Ready S k
@@ -93,14 +94,19 @@ module _ (S : Listed) where
   sets_by true a place x k t rest = sets_nf place x k t rest
   sets_by false a place x k t rest = rest
 
+  sets_shown : (n : ℕ) (place : Place) (x shown : Value) (k : List Piece) (t : State) → Ready S k
+      → Keeps S (to.set_shown n place x shown k t)
+  sets_shown zero place x shown k t rest =
+      separated place (own_text t (codes "FS")) (Do (m.Whole place (text_of shown)) ∷ k) (tt, rest)
+  sets_shown (suc n) place x shown k t rest = λ a. (tt, rest)
+
   pub sets : (y : m.Target) (place : Place) (x : Value) (k : List Piece) (t : State) → Ready S k
       → Keeps S (to.set y place x k t)
   sets (m.Variable a) place x k t rest = sets_by (is_nf a) a place x k t rest
   sets (m.Element a key at) place x k t rest = through S at (put (array t a) key x)
       (λ new k s. Goes k (with_array a new s)) k t (λ new. rest)
-  sets (m.Field zero) place x k t rest = separated place (own_text t (codes "FS")) (Do (m.Whole place (text_of x)) ∷ k)
-      (tt, rest)
-  sets (m.Field (suc n)) place x k t rest = λ a. (tt, rest)
+  sets (m.Field n) place x k t rest =
+      through S place (by_convfmt t x) (to.set_shown n place x) k t (λ shown. sets_shown n place x shown k t rest)
 
   pub wholes : (place : Place) (text : Text) (k : List Piece) (t : State) → Ready S k
       → Keeps S (to.whole place text k t)
@@ -115,11 +121,11 @@ module _ (S : Listed) where
             };
       })) k t (λ made. rest)
 
-  pub rebuilds : (place : Place) (vs : List Value) (k : List Piece) (t : State) → Ready S k
-      → Keeps S (to.rebuild place vs k t)
-  rebuilds place vs k t rest =
-      through S place (limited (joined (own_text t (codes "OFS")) vs))
-      (λ text k s. Goes k (record s { row = record { whole = text; fields = known vs } })) k t (λ made. rest)
+  pub rebuilds : (place : Place) (fs : List row.Field) (k : List Piece) (t : State) → Ready S k
+      → Keeps S (to.rebuild place fs k t)
+  rebuilds place fs k t rest =
+      through S place (limited (rebuilt (own_text t (codes "OFS")) fs))
+      (λ text k s. Goes k (record s { row = record { whole = text; fields = known fs } })) k t (λ made. rest)
 
   pub checks : (place : Place) (source : Text) (k : List Piece) (t : State) → Ready S k
       → Keeps S (to.check place source k t)
