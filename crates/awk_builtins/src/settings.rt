@@ -35,7 +35,7 @@ pub fn assign(
         (store.new, t) }
 {
     let mut value = value;
-    let Ok(kept) = stored(alloc, store, &to, &mut value) else {
+    let Ok(kept) = stored(alloc, store.numbers(), &to, &mut value) else {
         return Err(Halt::Memory);
     };
     set(alloc, store, to, place, value)?;
@@ -56,8 +56,9 @@ pub fn change(
         (store.new, t) }
 {
     let old = read(store, &to)?;
-    let number = computed_at(store.numbers(), place, how, &old, operand)?;
-    let Ok(kept) = stored(alloc, store, &to, &mut Value::of(number)) else {
+    let numbers = store.numbers();
+    let number = computed_at(numbers, place, how, &old, operand)?;
+    let Ok(kept) = stored(alloc, numbers, &to, &mut Value::of(number)) else {
         return Err(Halt::Memory);
     };
     set(alloc, store, to, place, Value::of(number))?;

@@ -21,7 +21,6 @@ use Rattle.awk_machine.specs.Operators.{of_count, limited}
 use Rattle.awk_machine.specs.Pieces.{Piece, Do, Target, Variable, Element, Field, Give, Set, Whole, Rebuild, Check}
 use Rattle.awk_machine.specs.Pieces.{Then, Goes, Seeks, give, granted, ends, Faulted}
 use Rattle.awk_machine.specs.Questions.{Spells, Fields, yes, these}
-use Rattle.awk_machine.specs.State.{State}
 use Rattle.awk_machine.specs.Variables.{is_nf, own_text, by_convfmt, variable, with_variable, array, with_array}
 
 -- ---- the target that is meant
@@ -104,24 +103,20 @@ set (Variable a) place x k s = if is_nf a then set_nf place x k s else Goes k (w
 set (Element a key at) place x k s = granted at (put (array s a) key x) (λ new k s. Goes k (with_array a new s)) k s
 set (Field n) place x k s = set_field n place x k s
 
--- what is stored: `$0` is always input, and NF always a number
+-- what an assignment gives: for `$0` it is always input, and for NF always a number
 abbrev pub as_number : Result ℤ Fault → Value
 as_number (Ok n) = v.Num n
 as_number (Err fault) = v.Unset
 
-abbrev pub as_input : Result Value Fault → Value
-as_input (Ok x) = v.Input (text_of x)
-as_input (Err fault) = v.Unset
-
-abbrev pub stored : State → Target → Value → Value
-stored s (Variable a) x = if is_nf a then as_number (number_of s.numbers x >>= whole_of) else x
-stored s (Element a key at) x = x
-stored s (Field zero) x = as_input (by_convfmt s x)
-stored s (Field (suc n)) x = x
+abbrev pub stored : Numbers → Target → Value → Value
+stored numbers (Variable a) x = if is_nf a then as_number (number_of numbers x >>= whole_of) else x
+stored numbers (Element a key at) x = x
+stored numbers (Field zero) x = v.Input (text_of x)
+stored numbers (Field (suc n)) x = x
 
 -- a value is stored, and given
 abbrev pub store : Target → Place → Value → Then
-store to place x k s = Goes (Do (Set to place x) ∷ Do (Give (stored s to x)) ∷ k) s
+store to place x k s = Goes (Do (Set to place x) ∷ Do (Give (stored s.numbers to x)) ∷ k) s
 
 -- ---- the whole record
 

@@ -6,7 +6,7 @@ use Rattle.std.specs.Prelude.{Result, Ok, Err, pos, nat_le, nat_lt, if◌then◌
 use Rattle.awk_fields.specs.Rows.{Field, Row, IsKept, HasFields, IsValueAt, SetsField, SetsNoField, with_field, blank}
 use Rattle.awk_fields.specs.Rows.{place_of, field_place, behind_whole, most_fields, rebuilt as rebuilt_text}
 use Rattle.awk_fields.specs.Separators.{IsEre, IsNoEre}
-use Rattle.awk_fields.proofs.Alone.{kept_again}
+use Rattle.awk_fields.proofs.Alone.{kept_again, one_row}
 use Rattle.awk_text.specs.Limits.{most_bytes}
 use Rattle.awk_text.specs.Values.{text_of}
 use Rattle.awk_text.specs.declared.fault.Fault.{Fault}
@@ -55,6 +55,12 @@ placed n = Ok n
 
 the_place : (a b : ℕ) → placed a ≡ placed b → a ≡ b
 the_place a b e = cc
+
+-- a field has one value
+pub one_value : (row : Row) (n : ℕ) (a b : Value) → IsValueAt row n a → IsValueAt row n b → a ≡ b
+one_value row zero a b h g = h ∙ sym g
+one_value row (suc k) a b (fs, has, e) (gs, got, d) = e ∙ ap (λ xs. (slice_index_or xs k blank).value)
+    (one_row row fs gs has got) ∙ sym d
 
 -- ---- a field is read
 

@@ -1,14 +1,15 @@
 -- What is read or set, as the code has it, and the target of the machine that it stands for.
 use Rattle.std.specs.Prelude.{◌≡◌, zero, suc, if◌then◌else◌}
+use Rattle.awk_numbers.specs.declared.number.Numbers.{Numbers}
+use Rattle.awk_text.specs.Values.{text_of}
 use Rattle.awk_text.specs.declared.value.Value.{Value}
 use Rattle.awk_text.specs.declared.value.Value.TheVariants as v
 use Rattle.awk_program.specs.Program as p
 use Rattle.awk_program.specs.View.{Names, variable_of}
 use Rattle.awk_machine.specs.Operators.{of_count}
 use Rattle.awk_machine.specs.Pieces as machine
-use Rattle.awk_machine.specs.Targets.{target, as_number, as_input}
+use Rattle.awk_machine.specs.Targets.{target, as_number}
 use Rattle.awk_store.specs.Kept as kept
-use Rattle.awk_store.specs.Kept.{Kept}
 use Rattle.awk_store.specs.Numbers.{whole_number}
 use Rattle.awk_store.specs.declared.spot.Spot.{Spot}
 use Rattle.awk_store.specs.declared.spot.Spot.TheVariants as s
@@ -28,9 +29,9 @@ value_of (s.Field n) = of_count n
 abbrev pub IsSpotOf : Names → p.Reference → Spot → Type 0
 IsSpotOf names r x = target r (value_of x) ≡ meant names x
 
--- what is stored there: `$0` is always input, and NF always a number
-abbrev pub stored : Kept → Spot → Value → Value
-stored old (s.Variable x) val = if kept.is_nf x then as_number (whole_number old.numbers val) else val
-stored old (s.Element place x key) val = val
-stored old (s.Field zero) val = as_input (kept.by_convfmt old val)
-stored old (s.Field (suc n)) val = val
+-- what an assignment to it gives: for `$0` it is always input, and for NF always a number
+abbrev pub stored : Numbers → Spot → Value → Value
+stored numbers (s.Variable x) val = if kept.is_nf x then as_number (whole_number numbers val) else val
+stored numbers (s.Element place x key) val = val
+stored numbers (s.Field zero) val = v.Input (text_of val)
+stored numbers (s.Field (suc n)) val = val

@@ -1,6 +1,5 @@
 // Values of which a text is wanted, and what CONVFMT makes of them.
 ghost use Rattle.awk_format.specs.NumberTexts.{is_usual, standing};
-ghost use Rattle.awk_machine.specs.Targets.{as_input};
 ghost use Rattle.awk_numbers.specs.declared.number.Numbers.TheVariants as profile;
 ghost use Rattle.awk_store.specs.Kept.{by_convfmt, own_text};
 ghost use Rattle.awk_text.specs.Lents.{lent_value};
@@ -9,7 +8,6 @@ ghost use Rattle.awk_text.specs.declared.value.Value.TheVariants as v;
 ghost use Rattle.std.specs.Prelude.{Err, IfErr, IfOk, IfSome, Ok, true, ◌≡◌, ◌⊎◌};
 
 use crate::Store;
-use crate::values::into_text;
 use awk_format::number_texts::{is_usual, number_by};
 use awk_numbers::number::Numbers;
 use awk_program::Own;
@@ -48,19 +46,6 @@ pub fn as_text(alloc: Global, store: &Store, value: Value) -> Result<Value, Faul
             None => Ok(Value::Real(number)),
         },
         other => Ok(other),
-    }
-}
-
-/// What `$0` holds once the value is set there: its text by CONVFMT, from outside; an unset value where there is none.
-///
-/// Fails with `Fault::Memory` alone, where memory is refused.
-pub fn input_of(alloc: Global, store: &Store, value: &Value) -> Result<Value, Fault>
-    ensures { IfOk result (λ made. made ≡ as_input (by_convfmt store.now value.now)) }
-{
-    match as_text(alloc, store, value.copy(alloc)?) {
-        Ok(text) => Ok(Value::Input(into_text(alloc, text)?)),
-        Err(Fault::Memory) => Err(Fault::Memory),
-        Err(_) => Ok(Value::Unset),
     }
 }
 

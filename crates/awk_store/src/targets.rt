@@ -16,7 +16,7 @@ ghost use Rattle.std.specs.Prelude.{IfOk, IfSome, Ok, ◌≡◌};
 use crate::elements::{read_element, set_element};
 use crate::fields::{read_field, set_field};
 use crate::numbers::whole_number;
-use crate::shown::{input_of, usual_text};
+use crate::shown::usual_text;
 use crate::spot::Spot;
 use crate::variables::{read_variable, replace_variable, set_variable};
 use crate::{Store, is_nf};
@@ -24,8 +24,9 @@ use awk_numbers::number::Numbers;
 use awk_streams::halt::Halt;
 use awk_text::buffer::Buffer;
 use awk_text::fault::Fault;
+use awk_text::octets::Octets;
 use awk_text::place::Place;
-use awk_text::value::Value;
+use awk_text::value::{Value, text_of};
 use std::alloc::Global;
 
 /// Reads it.
@@ -124,23 +125,23 @@ fn as_number(numbers: Numbers, value: &Value) -> Value
     }
 }
 
-/// What the target holds once the value is set there: `$0` is always input, and NF always a whole number. A long text
-/// is shared.
+/// What an assignment of the value to the target gives: for `$0` it is always input, and for NF always a whole number. A
+/// long text is shared.
 ///
 /// Fails where memory is refused.
 pub fn stored(
     alloc: Global,
-    store: &Store,
+    numbers: Numbers,
     target: &Spot,
     value: &mut Value,
 ) -> Result<Value, Fault>
-    ensures ok { IfOk result (λ x. x ≡ spec.stored store.now target.now value.old) }
+    ensures ok { IfOk result (λ x. x ≡ spec.stored numbers target.now value.old) }
     ensures same { value.new ≡ value.old }
 {
     match target {
         Spot::Variable(variable) => {
             if is_nf(*variable) {
-                Ok(as_number(store.numbers(), value))
+                Ok(as_number(numbers, value))
             } else {
                 value.share(alloc)
             }
@@ -148,7 +149,7 @@ pub fn stored(
         Spot::Element(_, _, _) => value.share(alloc),
         Spot::Field(number) => {
             if *number == 0 {
-                input_of(alloc, store, value)
+                Ok(Value::Input(Octets::new(text_of(alloc, value)?)))
             } else {
                 value.share(alloc)
             }

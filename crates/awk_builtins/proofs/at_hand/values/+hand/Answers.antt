@@ -248,10 +248,13 @@ made_at_hand-returns-in-Builtin t c =
     (λ x h g u. rw (c.in-Builtin.is, view-Builtin) (rw c.as_slice.ensures at (h c.in-Builtin.field-0 g u)))
     c.called_at_hand.ensures
 
-pub made_at_hand-returns-in_ok-x-in-AsText : goal.made_at_hand-returns-in_ok-x-in-AsText
-made_at_hand-returns-in_ok-x-in-AsText t c =
-    some_for {P = λ x. IsThere (λ names. view names c.in_ok-x-in-AsText.x.now) c.args.store.now (lent_value x)}
-    c.at_hand.result (λ x h. c.in_ok-x-in-AsText.ensures (lent_value x) h) c.at_hand.ensures
+pub made_at_hand-returns-in_ok-value-in-AsText : goal.made_at_hand-returns-in_ok-value-in-AsText
+made_at_hand-returns-in_ok-value-in-AsText t c =
+    let val = lent_value c.in_ok-value-in-AsText.value in
+    some_for {P = λ it. (lent_value it ≡ val) × (by_convfmt c.args.store.now val ≡ Ok val)} c.unless_shown.result
+    (λ it h g u. rw (c.in-AsText.is, view-AsText, h.0) (rw c.get-in-AsText.ensures at
+    (as_text_there g (c.args.store.now, u) c.in-AsText.field-0 (view (names_in g) c.get-in-AsText.result.now) val val
+    (c.in_ok-value-in-AsText.ensures g u) h.1))) c.unless_shown.ensures
 
 pub made_at_hand-returns-in_ok-count-in-Count : goal.made_at_hand-returns-in_ok-count-in-Count
 made_at_hand-returns-in_ok-count-in-Count t c = λ g u. rw (to_z-of_z w64 c.in_ok-count-in-Count.count (search rules))

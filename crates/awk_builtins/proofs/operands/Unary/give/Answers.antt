@@ -1,8 +1,8 @@
 use Rattle.std.proofs.Common.{ap, refl}
 use Rattle.awk_program.specs.Program as p
 use Rattle.awk_builtins.proofs.Granted.{given_or_lacks, given_so}
-use Rattle.awk_builtins.proofs.Convfmt.{convfmt-so}
-use Rattle.awk_builtins.specs.Shown.{by_convfmt}
+use Rattle.awk_store.proofs.Convfmt.{convfmt-so}
+use Rattle.awk_store.specs.Kept.{by_convfmt}
 use Rattle.awk_machine.specs.Advances.{held}
 use Rattle.awk_machine.specs.Forms.{deliver}
 use Rattle.awk_machine.specs.Streams.{seen}
