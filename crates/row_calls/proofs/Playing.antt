@@ -2,11 +2,10 @@
 use Rattle.std.specs.Prelude.{ℕ, zero, suc, ℤ, pos, negsuc, nat_le, nat_lt, Bool, true, false, not, ◌&&◌, List, [], ◌∷◌}
 use Rattle.std.specs.Prelude.{length, map, is_some, Option, Some, None}
 use Rattle.std.specs.List.{slice_split}
-use Rattle.awk_text.specs.declared.value.Value.TheVariants as v
 use Rattle.awk_ere.specs.Pattern.{Pattern}
 use Rattle.awk_fields.specs.Separators.{Separator, blanks, nothing, byte, ere}
 use Rattle.awk_fields.specs.Fields.{words, separates, separating, between}
-use Rattle.awk_fields.specs.Rows.{Held, unsplit, known}
+use Rattle.awk_fields.specs.Rows.{Held, unsplit, known, input}
 use Rattle.awk_program.specs.Slots.{Text}
 use Rattle.box_world.specs.Calls.{Call, is_among, open_after}
 use Rattle.box_world.specs.Events.{Want, Event, calls, open_streams, request_of}
@@ -19,7 +18,7 @@ use Rattle.awk_machine.specs.Begins as begins
 use Rattle.awk_machine.specs.Begins.{first_pieces, first_state}
 use Rattle.awk_machine.specs.Pieces.{Piece, Next as Move, Goes, Steps, Asks, Seeks, Over, Outcome}
 use Rattle.awk_machine.specs.Questions as q
-use Rattle.awk_machine.specs.Questions.{Question, Answer, Is, Places, Texts, Values}
+use Rattle.awk_machine.specs.Questions.{Question, Answer, Is, Places, Texts, These}
 use Rattle.awk_machine.specs.State.{State, Course, Given}
 use Rattle.awk_machine.specs.Streams.{seen, with_step, with_event}
 use Rattle.row_calls.proofs.Matching.{pattern_of, find, all, separators}
@@ -51,8 +50,8 @@ parts_of (byte c newline) (b ∷ s) = slice_split (separates c newline) (b ∷ s
 parts_of (ere source newline) (b ∷ s) = cut_by (b ∷ s) newline (pattern_of source)
 
 abbrev pub fields_of : Text → Held → Answer
-fields_of whole (known values) = Values values
-fields_of whole (unsplit separator) = Values (map v.Input (parts_of separator whole))
+fields_of whole (known found) = These found
+fields_of whole (unsplit separator) = These (map input (parts_of separator whole))
 
 abbrev pub answer_to : Question → Answer
 answer_to (q.Spells source) = Is (is_some (pattern_of source))
@@ -147,7 +146,7 @@ of_ere (byte c newline) (b ∷ s) = false
 of_ere (ere source newline) (b ∷ s) = true
 
 abbrev pub of_row : Text → Held → Bool
-of_row whole (known values) = false
+of_row whole (known found) = false
 of_row whole (unsplit separator) = of_ere separator whole
 
 abbrev pub is_of_ere : Question → Bool

@@ -16,7 +16,7 @@ use Rattle.awk_machine.specs.Begins.{first_pieces, first_state}
 use Rattle.awk_machine.specs.Pieces.{Piece, Next as Move, Goes, Steps, Asks, Seeks, Over, Outcome}
 use Rattle.awk_machine.specs.Plays.{Fits, Plays, Reaches, here, goes, steps, asks, seeks, Stands, over}
 use Rattle.awk_machine.specs.Questions as q
-use Rattle.awk_machine.specs.Questions.{Question, Values, Right}
+use Rattle.awk_machine.specs.Questions.{Question, Right}
 use Rattle.awk_machine.specs.State.{State, Course, Given}
 use Rattle.awk_machine.specs.Streams.{seen, with_step, with_event}
 use Rattle.box_world.specs.Calls.{Call, IsFitting, IsOpening, IsReading, IsDoing, IsStatus, IsShutting, IsRunning}
@@ -141,7 +141,7 @@ parts_are (ere source newline) (b ∷ s) e = no (sym e)
 
 fields_are : (whole : Text) (held : Held) → of_row whole held ≡ false →
     Right (q.Fields (record { whole = whole; fields = held })) (fields_of whole held)
-fields_are whole (known values) e = refl
+fields_are whole (known found) e = refl
 fields_are whole (unsplit separator) e = (parts_of separator whole, parts_are separator whole e, refl)
 
 right_by : (question : Question) → is_of_ere question ≡ false → Right question (answer_to question)
