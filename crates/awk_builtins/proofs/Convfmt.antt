@@ -1,10 +1,11 @@
 -- What goes by CONVFMT, by the machine's state and by the store, and where it changes nothing.
-use Rattle.std.proofs.Common.{◌≡◌, ap, refl, sym, ◌∙◌, ℤ, true, List, [], ◌∷◌}
+use Rattle.std.proofs.Common.{◌≡◌, ◌⊎◌, inl, inr, ap, refl, sym, ◌∙◌, ℤ, true, List, [], ◌∷◌}
 use Rattle.std.specs.Float.{Float}
-use Rattle.std.specs.Prelude.{drop, Option, Some, None, Result, Ok}
+use Rattle.std.specs.Prelude.{drop, Option, Some, None, Result, Ok, Err}
 use Rattle.awk_numbers.specs.declared.number.Number.{Number}
 use Rattle.awk_text.specs.Values.{numeric, text_of}
 use Rattle.awk_text.specs.declared.fault.Fault.{Fault}
+use Rattle.awk_text.specs.declared.fault.Fault.TheVariants as fault
 use Rattle.awk_text.specs.declared.place.Place.{Place}
 use Rattle.awk_text.specs.declared.value.Value.{Value}
 use Rattle.awk_text.specs.declared.value.Value.TheVariants as v
@@ -58,7 +59,7 @@ usual_compared kept how x y e = both_as_they_are kept how x y
     (plain_beside kept (numeric kept.numbers y) x (usual_stays kept x e))
     (plain_beside kept (numeric kept.numbers x) y (usual_stays kept y e))
 
-abbrev value_ok : Value → Result Value Fault
+abbrev pub value_ok : Value → Result Value Fault
 value_ok x = Ok x
 
 same_value : (x y : Value) → value_ok x ≡ value_ok y → x ≡ y
@@ -90,6 +91,23 @@ later_beside kept x y made e = by_left x e
     by_left (v.Real x) e = by_right x y e
     by_left (v.Text t) e = stays (v.Text t) refl e
     by_left (v.Input t) e = stays (v.Input t) refl e
+
+module _ (kept : Kept) (how : Comparison) (x y : Value) where
+  pub compared_made : (a b : Value) → spec.beside kept (numeric kept.numbers y) x ≡ Ok a
+      → spec.beside kept (numeric kept.numbers a) y ≡ Ok b
+      → spec.compared_by kept how x y ≡ Ok (compared kept.numbers how a b)
+  compared_made a b e d = let f = sym (later_beside kept x y a e) ∙ d in rw (e, f) refl
+
+  pub left_faults : (f : Fault) → (f ≡ fault.Memory) ⊎ (spec.beside kept (numeric kept.numbers y) x ≡ Err f)
+      → (f ≡ fault.Memory) ⊎ (spec.compared_by kept how x y ≡ Err f)
+  left_faults f (inl m) = inl m
+  left_faults f (inr e) = inr (rw e refl)
+
+  pub right_faults : (a : Value) (f : Fault) → spec.beside kept (numeric kept.numbers y) x ≡ Ok a
+      → (f ≡ fault.Memory) ⊎ (spec.beside kept (numeric kept.numbers a) y ≡ Err f)
+      → (f ≡ fault.Memory) ⊎ (spec.compared_by kept how x y ≡ Err f)
+  right_faults a f e (inl m) = inl m
+  right_faults a f e (inr d) = let g = sym (later_beside kept x y a e) ∙ d in inr (rw (e, g) refl)
 
 -- ---- by the machine's state
 

@@ -54,8 +54,8 @@ same_halt : {X : Type 0} (x h : Halt) → result_err {X = X} x ≡ result_err h 
 same_halt x h e = cc
 
 -- a fault is met, or memory is refused
-pub met_so : {A X : Type 0} {on : A → List Piece → List Piece} (g : Given) (w : Whole) (p : Piece) (place : Place)
-    (spec made : Result X Fault) (h : Halt) → IfErr made (λ e. (e ≡ fault.Memory) ⊎ (spec ≡ Err e)) →
+pub met_so : {A X Y : Type 0} {on : A → List Piece → List Piece} (g : Given) (w : Whole) (p : Piece) (place : Place)
+    (spec : Result Y Fault) (made : Result X Fault) (h : Halt) → IfErr made (λ e. (e ≡ fault.Memory) ⊎ (spec ≡ Err e)) →
     result_at place made ≡ Err h →
     ((f : Fault) → spec ≡ Err f → (k : List Piece) (hid : Hidden) (c : Course) → Agreeing g w hid c
     → advance g (p ∷ k) (seen (base g w hid) c) ≡ Goes (ends (Faulted f place)) (seen (base g w hid) c))

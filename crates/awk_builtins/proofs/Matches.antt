@@ -1,5 +1,5 @@
 -- How forms come to the use of their pattern.
-use Rattle.std.proofs.Common.{◌≡◌, ◌⊎◌, ◌<◌, ◌≤◌, inl, inr, refl, ap, Bool, true, false, List, [], ◌∷◌, ◌++◌, length}
+use Rattle.std.proofs.Common.{◌≡◌, ◌⊎◌, ◌<◌, ◌≤◌, ◌∙◌, inl, inr, refl, ap, Bool, true, false, List, [], ◌∷◌, ◌++◌, length}
 use Rattle.std.proofs.Common.{arith}
 use Rattle.std.proofs.lemmas.Bool.Decides.{nat_tests}
 use Rattle.std.specs.Prelude.{ℤ, pos, Option, Some, None, Result, Ok, Err, nat_lt, IfOk, IfErr}
@@ -14,18 +14,24 @@ use Rattle.awk_program.specs.Program as p
 use Rattle.awk_program.specs.Program.{Expression, Reference}
 use Rattle.awk_program.specs.declared.operators.Extent.{Extent}
 use Rattle.awk_program.specs.Slots.{Text}
+use Rattle.awk_machine.specs.Advances.{held}
 use Rattle.awk_machine.specs.Builtins.{split_by, is_all}
 use Rattle.awk_machine.specs.Forms.{checked}
-use Rattle.awk_machine.specs.Pieces.{Piece, Target, At, Do, Get, Check, Split, Set, Give, Substitute, Value_of, give}
+use Rattle.awk_machine.specs.Pieces.{Piece, Target, At, Do, Get, Check, Split, Set, Give, Goes, Substitute, Value_of, give}
+use Rattle.awk_machine.specs.Pieces.{granted}
 use Rattle.awk_machine.specs.State.{Given}
+use Rattle.awk_machine.specs.Streams.{seen}
 use Rattle.awk_machine.specs.Targets.{check_separator, target}
 use Rattle.awk_streams.specs.Tasks.{goes_on}
 use Rattle.awk_streams.specs.declared.halt.Halt.{Halt}
-use Rattle.awk_store.specs.Wholes.{Whole}
+use Rattle.awk_store.specs.Kept.{by_convfmt}
+use Rattle.awk_store.specs.Wholes.{Whole, base}
 use Rattle.awk_streams.specs.Chains.{result_at}
 use Rattle.awk_store.specs.Acts.{Acts, Passes}
 use Rattle.awk_builtins.specs.Searching.{then_set}
 use Rattle.awk_store.proofs.Acting.{at_rest, moves, reworded, doing, done, stop, faulted}
+use Rattle.awk_store.proofs.Convfmt.{convfmt-so}
+use Rattle.awk_builtins.proofs.Granted.{met_so}
 use Rattle.awk_builtins.specs.Patterns.{source_value, IsSourceOf, reading}
 use Rattle.awk_builtins.specs.declared.patterns.PatternValue.{PatternValue}
 use Rattle.awk_builtins.specs.declared.patterns.PatternValue.TheVariants as s
@@ -122,6 +128,21 @@ module _ (place : Place) (how : Extent) (x : p.Ere) (y : Expression) (r : Refere
   abbrev pub waiting : List Value → List Piece → List Piece
   waiting vs k = At (Value_of (p.substitute place how x y r)) (vs ++ at ∷ new ∷ pattern ∷ []) ∷ k
 
+  abbrev substituting : Text → Piece
+  substituting text = Do (Substitute place (target r at) (text_of pattern) (text_of new) text (is_all how))
+
+  -- the old value has no text by CONVFMT
+  pub no_text : {A X : Type 0} {on : A → List Piece → List Piece} {g : Given} {mid : Whole} (val : Value)
+      (made : Result X Fault) (h : Halt) → IfErr made (λ m. (m ≡ fault.Memory) ⊎ (by_convfmt mid.0 val ≡ Err m))
+      → result_at place made ≡ Err h
+      → Acts g (At (Value_of (p.substitute place how x y r)) (val ∷ at ∷ new ∷ pattern ∷ [])) on mid (Err h) mid
+  no_text {g = g} {mid = mid} val made h why was =
+      met_so g mid (At (Value_of (p.substitute place how x y r)) (val ∷ at ∷ new ∷ pattern ∷ [])) place
+      (by_convfmt mid.0 val) made h why was
+      (λ f is k hid d a. ap (λ m. held g (seen (base g mid hid) d)
+      (granted place m (λ z k s. Goes (substituting (text_of z) ∷ k) s) k (seen (base g mid hid) d)))
+      (convfmt-so g mid hid d a val ∙ is))
+
   module _ {g : Given} {from : Piece} {old : Whole} (to : Target) (e : target r at ≡ to) where
     -- the old text is read of what is meant
     pub reads_old : Passes g from old (reading place how x y r at new pattern) old
@@ -129,18 +150,20 @@ module _ (place : Place) (how : Extent) (x : p.Ere) (y : Expression) (r : Refere
     reads_old h = reworded h (λ k. ap (λ t. Do (Get t) ∷ waiting [] k) e)
 
     -- and then the matches in it are replaced
-    pub replaces_in : {mid : Whole} (val : Value) (source text : Text) → text_of pattern ≡ source → text_of val ≡ text
-        → Passes g from old (waiting (val ∷ [])) mid →
+    pub replaces_in : {mid : Whole} (val shown : Value) (source text : Text) → by_convfmt mid.0 val ≡ Ok shown
+        → text_of pattern ≡ source → text_of shown ≡ text → Passes g from old (waiting (val ∷ [])) mid →
         Passes g from old (λ k. Do (Substitute place to source (text_of new) text (is_all how)) ∷ k) mid
-    replaces_in val source text f is h =
-        reworded {to = λ k. Do (Substitute place (target r at) (text_of pattern) (text_of new) (text_of val)
-        (is_all how)) ∷ k} (moves h (λ k hid d a. refl)) (λ k. rw (e, f, is) refl)
+    replaces_in {mid} val shown source text made f is h =
+        reworded {to = λ k. substituting (text_of shown) ∷ k} (moves h
+        (λ k hid d a. ap (λ m. held g (seen (base g mid hid) d)
+        (granted place m (λ z k s. Goes (substituting (text_of z) ∷ k) s) k (seen (base g mid hid) d)))
+        (convfmt-so g mid hid d a val ∙ made))) (λ k. rw (e, f, is) refl)
 
     -- a text that is lent
-    pub replaces_lent : (source text : Text) → text_of pattern ≡ source → (val : Value) × (text_of val ≡ text)
-        × Passes g (Do (Get to)) old (give val) old → Passes g from old (reading place how x y r at new pattern) old →
+    pub replaces_lent : (source text : Text) → text_of pattern ≡ source → (val : Value)
+        × (by_convfmt old.0 val ≡ Ok val) × (text_of val ≡ text) × Passes g (Do (Get to)) old (give val) old → Passes g from old (reading place how x y r at new pattern) old →
         Passes g from old (λ k. Do (Substitute place to source (text_of new) text (is_all how)) ∷ k) old
-    replaces_lent source text f (val, is, lends) h = replaces_in {mid = old} val source text f is
+    replaces_lent source text f (val, stays, is, lends) h = replaces_in {mid = old} val val source text stays f is
         (doing (tt {0}) (reads_old h) (done {on = λ (u : Unit {0}). give val} lends) refl)
 
 module _ {g : Given} {from : Piece} {old mid : Whole} (place : Place) (to : Target) (made : Option (Text × ℤ))

@@ -65,8 +65,9 @@ pub fn evaluate<W: World, E: Evaluates<W>>(
             builtin(cx, *place, *which, args.as_slice(), on, run, world)
         }
         Expr::Count(array) => count(&run.store, *array),
-        Expr::Compare(how, x, y) => {
-            binary(cx, Binary::Compare(*how), x.get(), y.get(), on, run, world)
+        Expr::Compare(place, how, x, y) => {
+            let form = Binary::Compare(*place, *how);
+            binary(cx, form, x.get(), y.get(), on, run, world)
         }
         // `value` has the ways of these.
         Expr::Chain(_, _)

@@ -13,15 +13,15 @@ use crate::evaluates::Evaluates;
 use crate::sources::matches;
 use crate::targets::increment;
 use crate::units::units_of;
-use awk_builtins::at_hand::tests::{split_for_test, truth_at_hand};
-use awk_builtins::at_hand::values::{MOST_LEVELS, at_hand, number_at_hand};
-use awk_builtins::operators::{compared, compared_lent};
+use awk_builtins::at_hand::tests::{compared_behind, split_for_test, truth_at_hand};
+use awk_builtins::at_hand::values::{MOST_LEVELS, number_at_hand};
+use awk_builtins::comparisons::compared;
 use awk_builtins::patterns::matches_record;
 use awk_numbers::number::Number;
 use awk_program::{Comparison, Expr};
-use awk_streams::halt::Halt;
+use awk_streams::halt::{Halt, at};
 use awk_text::fault::Fault;
-use awk_text::lent::Lent;
+use awk_text::place::Place;
 use awk_text::value::{Value, number_of, truth};
 use box_world::world::World;
 
@@ -128,7 +128,9 @@ fn general_truth<W: World, E: Evaluates<W>>(
         return Err(Halt::Memory);
     };
     match e {
-        Expr::Compare(how, x, y) => compare(cx, *how, x.get(), y.get(), below, run, world),
+        Expr::Compare(place, how, x, y) => {
+            compare(cx, *place, *how, x.get(), y.get(), below, run, world)
+        }
         Expr::Match(place, x, pattern) => { matches(cx, *place, x.get(), pattern, on, run, world) }
         Expr::Not(x) => is_untrue(cx, x.get(), below, run, world),
         _ => {
@@ -180,6 +182,7 @@ fn is_untrue<W: World, E: Evaluates<W>>(
 /// Whether a comparison holds.
 fn compare<W: World, E: Evaluates<W>>(
     cx: &Context<'_>,
+    place: Place,
     how: Comparison,
     x: &Expr,
     y: &Expr,
@@ -189,14 +192,15 @@ fn compare<W: World, E: Evaluates<W>>(
 ) -> Result<bool, Halt>
     requires can { E.can on }
     requires owns { Owns (W.open_numbers world.old) run.old.streams }
-    ensures { Does W.World cx.now (λ g. value (p.compare how (view (names_in g) x.now) (view (names_in g) y.now)))
+    ensures { Does W.World cx.now
+        (λ g. value (p.compare place how (view (names_in g) x.now) (view (names_in g) y.now)))
         (λ g b. give (of_truth b))
         (whole_of run.old) world.old result (whole_of run.new) world.new }
 {
     let one = operand(cx, x, on, run, world)?;
-    if let Some(other) = at_hand(&run.store, y, MOST_LEVELS) {
-        return Ok(compared_lent(run.store.numbers(), how, Lent::of(&one), other));
+    if let Some(holds) = compared_behind(&run.store, how, &one, y) {
+        return Ok(holds);
     }
     let other = on.value(cx, y, run, world)?;
-    Ok(compared(run.store.numbers(), how, &one, &other))
+    at(place, compared(cx.alloc, &run.store, how, one, other))
 }

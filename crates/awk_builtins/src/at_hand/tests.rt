@@ -1,5 +1,6 @@
 // Tests whose truth is there, where their parts are; and the part that a choice comes to by such a test.
 ghost use Rattle.awk_builtins.specs.AtHand.{HasTruth, IsThere};
+ghost use Rattle.awk_builtins.specs.Shown.{compared_by};
 ghost use Rattle.awk_machine.specs.Operators.{of_truth};
 ghost use Rattle.awk_machine.specs.Pieces.{Piece};
 ghost use Rattle.awk_machine.specs.State.{Given};
@@ -12,7 +13,7 @@ ghost use Rattle.awk_text.specs.Lents.{lent_value};
 ghost use Rattle.awk_text.specs.declared.place.Place as spot_of;
 ghost use Rattle.awk_text.specs.declared.value.Value.TheVariants as v;
 ghost use Rattle.awk_text.specs.declared.value.Value.{Value as Val};
-ghost use Rattle.std.specs.Prelude.{IfSome, map, ◌∷◌};
+ghost use Rattle.std.specs.Prelude.{IfSome, Ok, map, ◌∷◌, ◌≡◌};
 
 use crate::at_hand::records::{is_keyed_by_field, is_unsplit, split_record, wants_split};
 use crate::at_hand::values::{MOST_LEVELS, at_hand, counted_there, plain_number};
@@ -26,6 +27,7 @@ use awk_streams::halt::Halt;
 use awk_text::buffer::Buffer;
 use awk_text::lent::Lent;
 use awk_text::place::Place;
+use awk_text::value::Value;
 use std::alloc::Global;
 
 /// Whether a comparison with a number holds, where the other side is there.
@@ -61,6 +63,15 @@ fn compared_values(store: &Store, how: Comparison, x: &Expr, y: &Expr) -> Option
     let left = at_hand(store, x, MOST_LEVELS)?;
     let right = at_hand(store, y, MOST_LEVELS)?;
     compared_there(store, how, left, right)
+}
+
+/// Whether a comparison of a value that was made holds, where the other side is there.
+pub fn compared_behind(store: &Store, how: Comparison, left: &Value, y: &Expr) -> Option<bool>
+    ensures { IfSome result (λ b. (val : Val) × IsThere (λ names. view names y.now) store.now val
+        × (compared_by store.now how left.now val ≡ Ok (of_truth b))) }
+{
+    let right = at_hand(store, y, MOST_LEVELS)?;
+    compared_there(store, how, Lent::of(left), right)
 }
 
 /// The same. Two numbers that stand ready are compared in line.

@@ -1,11 +1,15 @@
 use Rattle.awk_forms.proofs.Leading.{quietly}
-use Rattle.awk_streams.proofs.Chain.{at_once, done, part, stop}
-use Rattle.awk_text.specs.Lents.{lent_value}
-use Rattle.awk_machine.specs.Pieces.{Goes, give}
+use Rattle.awk_streams.proofs.Chain.{at_once, done, part, passes, stop}
+use Rattle.awk_machine.specs.Advances.{held}
+use Rattle.awk_machine.specs.Forms.{deliver}
+use Rattle.awk_machine.specs.Pieces.{give}
+use Rattle.awk_program.specs.View.{view}
 use Rattle.awk_store.proofs.Acting.{acted, done as there}
-use Rattle.awk_store.specs.Wholes.{base}
+use Rattle.awk_store.specs.Wholes.{Whole, base, names_in}
+use Rattle.awk_builtins.proofs.Comparing.{compares}
+use Rattle.awk_builtins.proofs.Convfmt.{compared-so}
 use Rattle.awk_machine.specs.Streams.{seen}
-use Rattle.std.proofs.Common.{ap, refl, sym}
+use Rattle.std.proofs.Common.{ap, refl, ◌∙◌}
 use Rattle.std.proofs.lemmas.Result.{err_from_is_err_and}
 use Rattle.awk_forms.proofs.tests.compare.Goals as goal
 
@@ -31,24 +35,27 @@ returns-in_err-other g c =
 
 pub returns-in-Some : goal.returns-in-Some
 returns-in-Some g c =
+    let w : Whole = (c.operand.new.run.store, c.operand.new.run.streams) in
+    let (val, there_is, made) = c.in-Some.ensures in
     record {
       plays = λ m is. done
           (quietly (part _ (quietly (part _ (quietly (at_once _ _ _) (λ k hid d a. refl)) (c.operand.ensures.plays m is)
           c.in_ok-one.was) (λ k hid d a. refl))
-          (acted (there {on = give} {x = lent_value c.in-Some.other} (c.in-Some.ensures m c.operand.new.run.streams)))
+          (acted (there {on = give} {x = val} (there_is m c.operand.new.run.streams)))
           refl) (λ k hid d a. ap
-          (λ z. Goes (give z k) (seen (base m (c.operand.new.run.store, c.operand.new.run.streams) hid) d))
-          (sym (rw (c.of.ensures, c.numbers.ensures) at c.compared_lent.ensures))));
+          (λ r. held m (seen (base m w hid) d) (deliver c.args.place r k (seen (base m w hid) d)))
+          (compared-so m w hid d a c.args.how c.in_ok-one.one val ∙ made)));
       owns = c.operand.ensures.owns;
     }
 
 pub returns : goal.returns
 returns g c =
     record {
-      plays = λ m is. done
-          (quietly (part _ (quietly (part _ (quietly (at_once _ _ _) (λ k hid d a. refl)) (c.operand.ensures.plays m is)
+      plays = λ m is. rw c.at.ensures (passes
+          (part _ (quietly (part _ (quietly (at_once _ _ _) (λ k hid d a. refl)) (c.operand.ensures.plays m is)
           c.in_ok-one.was) (λ k hid d a. refl)) (c.value.ensures.plays m is) c.in_ok-other.was)
-          (λ k hid d a. ap (λ z. Goes (give z k) (seen (base m (c.value.new.run.store, c.value.new.run.streams) hid) d))
-          (sym (rw c.numbers-2.ensures at c.compared.ensures))));
+          (acted (compares m (c.value.new.run.store, c.value.new.run.streams) c.args.place c.args.how
+          (view (names_in m) c.args.x.now) (view (names_in m) c.args.y.now) c.in_ok-one.one c.in_ok-other.other
+          c.compared.result c.compared.ensures.ok c.compared.ensures.err)));
       owns = c.value.ensures.owns;
     }

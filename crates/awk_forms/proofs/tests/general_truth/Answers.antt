@@ -44,7 +44,7 @@ returns-in_ok-found-in_default-e g c =
 pub returns-in-Compare : goal.returns-in-Compare
 returns-in-Compare g c =
     let h = as_truth {ghosts = g.W.World} {cx = c.args.cx.now} {p =
-    λ m. value (p.compare c.in-Compare.how (view (names_in m) c.in-Compare.x) (view (names_in m) c.in-Compare.y))}
+    λ m. value (p.compare c.in-Compare.place c.in-Compare.how (view (names_in m) c.in-Compare.x) (view (names_in m) c.in-Compare.y))}
     {r = c.compare.result} (record {
       plays = λ m is. rw (c.get.ensures, c.get-in-Compare.ensures) at
           (c.compare.ensures.plays m is);

@@ -1,4 +1,4 @@
-use Rattle.std.proofs.Common.{ap, sym, ◌∙◌, rules, w64}
+use Rattle.std.proofs.Common.{ap, subst, sym, ◌∙◌, ◌≡◌, rules, w64}
 use Rattle.std.proofs.lemmas.Int.{to_z-of_z}
 use Rattle.std.specs.Prelude.{Ok}
 use Rattle.awk_numbers.specs.declared.number.Number.TheVariants as number
@@ -7,6 +7,7 @@ use Rattle.awk_program.proofs.Views.{view-Read}
 use Rattle.awk_store.specs.Wholes.{names_in}
 use Rattle.awk_text.specs.Values.{text_of}
 use Rattle.awk_text.specs.Lents.{lent_value}
+use Rattle.awk_store.specs.Kept.{by_convfmt}
 use Rattle.awk_store.proofs.Limited.{limited_ok}
 use Rattle.awk_store.proofs.RecordSteps.{one_value}
 use Rattle.awk_builtins.proofs.AtHand.{element_spot, field_there, field_number_is}
@@ -21,11 +22,12 @@ returns c =
     λ val at fits g t place of_.
     let same = one_value c.args.store.now.row c.in-Ok.number val (lent_value c.in_ok-lent_field.field-0) at
     c.in_ok-lent_field.ensures in
-    let stays = c.in_ok-unless_shown.ensures.1 in
+    let stays : by_convfmt c.args.store.now val ≡ Ok val = subst (λ x. by_convfmt c.args.store.now x ≡ Ok x) (sym same)
+    c.in_ok-unless_shown.ensures.1 in
     rw (just_one c.args.keys.now c.one-item.result c.in-len1.len_at_least
     c.in-len1.len_below c.one-item.is)
     (element_spot g (c.args.store.now, t) place of_ (view (names_in g) c.one-item.result) val (text_of val)
-    (c.operand_of.ensures c.args.store.now val (rw sym same at stays) (λ g t. rw (c.in-Read.is, view-Read, c.in-Field.is)
+    (c.operand_of.ensures c.args.store.now val stays (λ g t. rw (c.in-Read.is, view-Read, c.in-Field.is)
     (rw c.get.ensures at (field_there g (c.args.store.now, t) c.in-Field.field-0
     (view (names_in g) c.get.result.now) h.val c.in-Ok.number val (h.there g t) (h.is ∙ ap (λ z. Ok
     (number.Whole z)) is.0) is.1 at))) g t)

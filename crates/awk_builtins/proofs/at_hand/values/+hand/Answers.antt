@@ -8,15 +8,17 @@ use Rattle.awk_program.specs.Program as p
 use Rattle.awk_program.specs.Program.{expressions_of, terms_of}
 use Rattle.awk_program.specs.declared.builtins.Builtin.TheVariants as b
 use Rattle.awk_program.specs.View.{variable_of, view, view_target, view_term}
-use Rattle.awk_program.proofs.Views.{view-Builtin, view-Chain, view-Number, view-Read, view-Text}
+use Rattle.awk_program.proofs.Views.{view-AsText, view-Builtin, view-Chain, view-Number, view-Read, view-Text}
 use Rattle.awk_lib.specs.Texts.{substr}
 use Rattle.awk_fields.specs.Rows.{IsValueAt}
+use Rattle.awk_store.specs.Kept.{by_convfmt}
 use Rattle.awk_store.specs.Wholes.{names_in}
 use Rattle.awk_text.specs.Values.{number_of, text_of}
 use Rattle.awk_text.specs.declared.value.Value.TheVariants as v
 use Rattle.awk_builtins.specs.AtHand.{HasNumber, IsThere}
 use Rattle.awk_builtins.proofs.AtHand.{chain_first, element_there, field_number_is, field_there, number_there, terms_at}
 use Rattle.awk_builtins.proofs.AtHand.{terms_done, text_there}
+use Rattle.awk_builtins.proofs.Convfmt.{as_text_there}
 use Rattle.awk_builtins.proofs.MadeThere.{one_there, part_there, rest_there, two_there, whole_there}
 use Rattle.awk_builtins.proofs.Rests.{just_one, just_two, just_three, some_done, some_for}
 use Rattle.awk_builtins.proofs.at_hand.values.+hand.Goals as goal
@@ -252,8 +254,8 @@ pub made_at_hand-returns-in_ok-value-in-AsText : goal.made_at_hand-returns-in_ok
 made_at_hand-returns-in_ok-value-in-AsText t c =
     let val = lent_value c.in_ok-value-in-AsText.value in
     some_for {P = λ it. (lent_value it ≡ val) × (by_convfmt c.args.store.now val ≡ Ok val)} c.unless_shown.result
-    (λ it h g u. rw (c.in-AsText.is, view-AsText, h.0) (rw c.get-in-AsText.ensures at
-    (as_text_there g (c.args.store.now, u) c.in-AsText.field-0 (view (names_in g) c.get-in-AsText.result.now) val val
+    (λ it h g u. rw (c.in-AsText.is, view-AsText, h.0) (rw c.get.ensures at
+    (as_text_there g (c.args.store.now, u) c.in-AsText.field-0 (view (names_in g) c.get.result.now) val val
     (c.in_ok-value-in-AsText.ensures g u) h.1))) c.unless_shown.ensures
 
 pub made_at_hand-returns-in_ok-count-in-Count : goal.made_at_hand-returns-in_ok-count-in-Count
