@@ -1,8 +1,8 @@
 -- Operands of which a text is wanted (POSIX.1-2017 XCU awk, "Expressions in awk": a number that is no integer is
 -- converted to a string by CONVFMT). Whole numbers have one text each, which asks for no form of its own. Of doubles an
--- operand is marked, unless it is a text or a whole number by its form. The operands of a comparison and what a target is
--- set to are never marked: whether their texts are wanted turns on the values, and plain awk says of these forms how they
--- go by CONVFMT.
+-- operand is marked, unless it is a text or a whole number by its form. The operands of a comparison and what a target
+-- is set to are never marked: whether their texts are wanted turns on the values, and plain awk says of these forms how
+-- they go by CONVFMT.
 use Rattle.std.specs.Prelude.{ℕ, zero, suc, Bool, true, false, if◌then◌else◌}
 use Rattle.awk_numbers.specs.declared.number.Number.TheVariants.{Whole}
 use Rattle.awk_numbers.specs.declared.number.Numbers.{Numbers}
