@@ -145,22 +145,6 @@ pub fn number_by(
     Ok(Some(Octets::new(number_text(alloc, by, x)?)))
 }
 
-/// The value, and of a number with a fraction its text by the format, as [`number_by`] makes it: a text is wanted.
-///
-/// Fails as `all_shown` does.
-pub fn value_by(alloc: Global, numbers: Numbers, by: &[u8], value: Value) -> Result<Value, Fault>
-    ensures ok { IfOk result (λ made. value_by numbers by.now value ≡ Ok made) }
-    ensures err { IfErr result (λ e. (e ≡ Fault.Memory) ⊎ (value_by numbers by.now value ≡ Err e)) }
-{
-    match value {
-        Value::Real(x) => match number_by(alloc, numbers, by, x)? {
-            Some(text) => Ok(Value::Text(text)),
-            None => Ok(Value::Real(x)),
-        },
-        other => Ok(other),
-    }
-}
-
 fn shows_text(conversion: Conversion) -> bool
     ensures { result ≡ shows_text conversion }
 {

@@ -103,15 +103,19 @@ set (Variable a) place x k s = if is_nf a then set_nf place x k s else Goes k (w
 set (Element a key at) place x k s = granted at (put (array s a) key x) (λ new k s. Goes k (with_array a new s)) k s
 set (Field n) place x k s = set_field n place x k s
 
--- what an assignment gives: for `$0` it is always input, and for NF always a number
+-- what an assignment gives: for NF it is always a number, and for `$0` input unless it is a number with a fraction
 abbrev pub as_number : Result ℤ Fault → Value
 as_number (Ok n) = v.Num n
 as_number (Err fault) = v.Unset
 
+abbrev pub as_record : Value → Value
+as_record (v.Real x) = v.Real x
+as_record x = v.Input (text_of x)
+
 abbrev pub stored : Numbers → Target → Value → Value
 stored numbers (Variable a) x = if is_nf a then as_number (number_of numbers x >>= whole_of) else x
 stored numbers (Element a key at) x = x
-stored numbers (Field zero) x = v.Input (text_of x)
+stored numbers (Field zero) x = as_record x
 stored numbers (Field (suc n)) x = x
 
 -- a value is stored, and given

@@ -125,8 +125,20 @@ fn as_number(numbers: Numbers, value: &Value) -> Value
     }
 }
 
-/// What an assignment of the value to the target gives: for `$0` it is always input, and for NF always a whole number. A
-/// long text is shared.
+/// The value of an assignment to the whole record.
+fn as_record(alloc: Global, value: &Value) -> Result<Value, Fault>
+    ensures { IfOk result (λ x. x ≡ machine.as_record value.now) }
+{
+    match value {
+        Value::Real(number) => Ok(Value::Real(*number)),
+        Value::Unset | Value::Num(_) | Value::Text(_) | Value::Input(_) => {
+            Ok(Value::Input(Octets::new(text_of(alloc, value)?)))
+        }
+    }
+}
+
+/// What an assignment of the value to the target gives: for NF it is always a whole number, and for `$0` input unless it
+/// is a number with a fraction. A long text is shared.
 ///
 /// Fails where memory is refused.
 pub fn stored(
@@ -149,7 +161,7 @@ pub fn stored(
         Spot::Element(_, _, _) => value.share(alloc),
         Spot::Field(number) => {
             if *number == 0 {
-                Ok(Value::Input(Octets::new(text_of(alloc, value)?)))
+                as_record(alloc, value)
             } else {
                 value.share(alloc)
             }
