@@ -1,9 +1,9 @@
 use Rattle.std.proofs.Common.{arith}
 use Rattle.awk_ere.proofs.Gathering.{Target, gather_begins, gather_more, target_gained, targets_gathered}
-use Rattle.awk_ere.proofs.states.targets.Goals as goal
+use Rattle.awk_ere.proofs.states.find_targets.Goals as goal
 
 pub loop-at-init : goal.loop-at-init
-loop-at-init c = rw c.new-found.ensures.items (gather_begins _)
+loop-at-init c = rw c.clear.ensures.items (gather_begins _)
 
 pub loop-at-preserved : goal.loop-at-preserved
 loop-at-preserved c =

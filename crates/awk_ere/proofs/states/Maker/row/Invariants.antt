@@ -1,0 +1,16 @@
+use Rattle.std.proofs.Common.{◌≡◌, ◌≤◌, ◌-◌, length}
+use Rattle.awk_ere.specs.Making.{lists_of, AreMade}
+use Rattle.awk_ere.specs.Table.{steps_of, Later}
+use Rattle.awk_ere.proofs.Making.{IsRow}
+use Rattle.awk_ere.proofs.states.Maker.row.Given as goal
+
+abbrev pub invariant-loop-byte : goal.invariant-loop-byte
+invariant-loop-byte l = record {
+  made : AreMade l.self.program.now l.states;
+  later : Later (lists_of l.fn.states) (lists_of l.states);
+  inside : l.byte ≤ 256;
+  row : IsRow l.self.sets.now l.self.program.now (steps_of (lists_of l.fn.states) l.at) (lists_of l.states) l.byte l.row;
+}
+
+abbrev pub decreases-loop-byte : goal.decreases-loop-byte
+decreases-loop-byte l = 256 - l.byte
