@@ -1,18 +1,20 @@
 -- How the rows of a table are made, and the states that they name.
 use Rattle.std.proofs.Common.{◌≡◌, ◌↔◌, ℕ, zero, suc, ◌+◌, ◌<◌, ◌≤◌, inl, inr, Bool, true, false, List, [], ◌∷◌, ◌++◌}
-use Rattle.std.proofs.Common.{◌-◌, Some, length, get_or, refl, sym, ◌∙◌, ap, subst, arith}
+use Rattle.std.proofs.Common.{◌-◌, Some, length, get_or, map, refl, sym, ◌∙◌, ap, subst, arith}
 use Rattle.std.proofs.Math.ListN.{length-append, length-set, set}
 use Rattle.std.specs.List.{slice_get, Contains}
 use Rattle.std.proofs.lemmas.Bool.{cases_lt, cases_eq}
 use Rattle.std.proofs.lemmas.List.{get_or_default, get_or-set_same, get_or-set_other}
 use Rattle.awk_ere.specs.Program.{IsSound}
 use Rattle.awk_ere.specs.Search.{mark, target_of, Takes}
-use Rattle.awk_ere.specs.Table.{steps_of, IsLed, AreLed, AreTargets, IsKnown, IsNumber, AreEdges, EndsAtLast, Later}
-use Rattle.awk_ere.specs.Making.{IsMadeBy, AreMadeBy, AreListEdges, AreRuns}
+use Rattle.awk_ere.specs.Table.{steps_of, Gains, IsLed, AreLed, AreTargets, IsKnown, IsNumber, AreEdges, EndsAtLast, Later}
+use Rattle.awk_ere.specs.Making.{is_eat, IsEat, IsMadeBy, AreEating, AreMadeBy, AreListEdges, AreRuns}
 use Rattle.awk_ere.specs.declared.program.Instruction.{Instruction}
 use Rattle.awk_ere.specs.declared.program.Instruction.TheVariants.{Eat}
 use Rattle.awk_ere.specs.declared.search.TheConstants.{NONE}
 use Rattle.awk_ere.proofs.Advance.{takes_target, target_takes}
+use Rattle.std.proofs.lemmas.List.Elements.{Contains-get_or}
+use Rattle.awk_ere.proofs.Gathering.{IsGathered, gained_none, gained_one}
 use Rattle.awk_ere.proofs.Gathering.{cell_by, known_same, known_later, later_steps, later_length, leads_inside}
 
 -- a mark of the first step says whether a match ends at the text's end
@@ -24,6 +26,11 @@ ends_marked program list starts least b some led is test = (
   (λ h. test.1 (let lt = led.complete h.0 0 (leads_inside program false true h.0 some h.2) h.1 h.2 in
       omega (arith, lt, is))),
 )
+
+-- a list without steps is the first one
+pub first_list : {V : Type 0} (f : V → List ℕ) (xs ys : List V) (x : V) → xs ≡ [] → f x ≡ [] → ys ≡ xs ++ x ∷ []
+    → map f ys ≡ [] ∷ []
+first_list f xs ys x none empty is = ap (λ z. map f z) (is ∙ ap (λ z. z ++ x ∷ []) none) ∙ ap (λ y. y ∷ []) empty
 
 -- kernels
 module _ (program : List Instruction) where
@@ -89,24 +96,78 @@ module _ (program : List Instruction) where
       subst (λ x. IsMadeBy program lists kernel x) (sym same)
       (subst (λ x. IsMadeBy program lists x (get_or numbers at 0)) is (h.each at lt))
 
-  pub made_first : AreMadeBy program ([] ∷ []) ([] ∷ []) (0 ∷ [])
-  made_first = record {
-    len = refl;
-    each = λ i lt small. (
-      (let z : i ≡ 0 = omega (arith, lt) in subst (λ k. get_or (0 ∷ []) k 0 < 1) (sym z) (omega arith)),
-      (let z : i ≡ 0 = omega (arith, lt) in
+  pub made_first : (lists kernels : List (List ℕ)) (numbers : List ℕ) → lists ≡ [] ∷ [] → kernels ≡ [] ∷ []
+      → numbers ≡ 0 ∷ [] → AreMadeBy program lists kernels numbers
+  made_first lists kernels numbers a b c =
+      subst (λ x. AreMadeBy program x kernels numbers) (sym a)
+      (subst (λ x. AreMadeBy program ([] ∷ []) x numbers) (sym b)
+      (subst (λ x. AreMadeBy program ([] ∷ []) ([] ∷ []) x) (sym c) (record {
+        len = refl;
+        each = λ i lt small. let z : i ≡ 0 = omega (arith, lt) in (
+          subst (λ k. get_or (0 ∷ []) k 0 < 1) (sym z) (omega arith),
           subst (λ k. IsLed program false false (steps_of ([] ∷ []) k) (steps_of ([] ∷ []) (get_or (0 ∷ []) k 0)))
-          (sym z) (record {
-            sound = λ p member. absurd (omega (arith, member.1));
-            complete = λ x p below member leads. absurd (omega (arith, member.1));
-          })),
-    );
-  }
+              (sym z) (record {
+                sound = λ p member. absurd (omega (arith, member.1));
+                complete = λ x p below member leads. absurd (omega (arith, member.1));
+              }),
+        );
+      })))
 
   pub cell_made : (sets : List (List Bool)) (b : ℕ) (S T : List ℕ) (lists : List (List ℕ)) (n : ℕ) → IsSound program
       → AreTargets sets program b S T → IsMadeBy program lists T n → IsKnown sets program b S lists n
   cell_made sets b S T lists n sound targets h = λ small. let y = h small in
       (y.0, cell_by sets program b S T (steps_of lists n) sound targets y.1)
+
+-- the steps that take a byte
+module _ (program : List Instruction) where
+  pub eating_not : (at : ℕ) (x : Instruction) (list : List ℕ) → slice_get program at ≡ Some x → is_eat x ≡ false
+      → Gains (λ p. (p ≡ at) × IsEat program at) list list
+  eating_not at x list is off =
+      gained_none (λ p. (p ≡ at) × IsEat program at) list (λ p h. other h.1.0 h.1.1 h.1.2) where
+        other : (y : Instruction) → slice_get program at ≡ Some y → is_eat y ≡ true → ⊥
+        other y here eat = let e = sym is ∙ here in cc
+
+  pub eating_one : (at : ℕ) (x : Instruction) (old new : List ℕ) → slice_get program at ≡ Some x → is_eat x ≡ true
+      → new ≡ old ++ at ∷ [] → Gains (λ p. (p ≡ at) × IsEat program at) old new
+  eating_one at x old new is eat more =
+      subst (λ list. Gains (λ p. (p ≡ at) × IsEat program at) old list) (sym more)
+      (gained_one (λ p. (p ≡ at) × IsEat program at) old at (refl, (x, is, eat)) (λ p h. h.0))
+
+  module _ (list : List ℕ) where
+    abbrev pub Eating : ℕ → ℕ → Type 0
+    Eating i p = (i < length list) × (p ≡ get_or list i 0) × IsEat program (get_or list i 0)
+
+    pub eating_gained : (k : ℕ) (old new : List ℕ) → k < length list
+        → Gains (λ p. (p ≡ get_or list k 0) × IsEat program (get_or list k 0)) old new → Gains (Eating k) old new
+    eating_gained k old new lt gains = λ t. (
+      (λ member. elim ((gains t).0 member) [ inl had ↦ inl had | inr is ↦ inr (lt, is.0, is.1) ]),
+      (λ one. elim one [ inl had ↦ (gains t).1 (inl had) | inr is ↦ (gains t).1 (inr (is.1, is.2)) ]),
+    )
+
+    pub eating_gathered : (k : ℕ) (found : List ℕ) → length list ≤ k → IsGathered Eating k found
+        → AreEating program list found
+    eating_gathered k found all h = λ q. (
+      (λ member. let y = (h q).0 member in (
+        subst (λ x. Contains list x) (sym y.2.1) (Contains-get_or list y.0 0 y.2.0),
+        subst (λ x. IsEat program x) (sym y.2.1) y.2.2,
+      )),
+      (λ both.
+          let (i, lt, same) = both.0 in
+          let e : get_or list i 0 ≡ q = get_or_default list i 0 q lt ∙ same in
+          (h q).1 (i, omega (arith, lt), (lt, sym e, subst (λ x. IsEat program x) (sym e) both.1))),
+    )
+
+  -- over a byte the others lead nowhere
+  pub known_eating : (sets : List (List Bool)) (b n : ℕ) (list eating : List ℕ) (lists : List (List ℕ))
+      → AreEating program list eating → IsKnown sets program b eating lists n → IsKnown sets program b list lists n
+  known_eating sets b n list eating lists are h = λ small. let y = h small in (
+    y.0,
+    record {
+      sound = λ p member. let z = y.1.sound p member in (z.0, z.1, ((are z.0).0 z.2).0, z.3, z.4);
+      complete = λ x t p member takes leads.
+          y.1.complete x t p ((are x).1 (member, (Eat takes.class t, takes.step, refl))) takes leads;
+    },
+  )
 
 -- a row, made up to the byte k; from there on it has what the byte before has
 module _ (sets : List (List Bool)) (program : List Instruction) where

@@ -1,11 +1,12 @@
 -- How the rows of a table are made.
-use Rattle.std.specs.Prelude.{◌≡◌, ◌↔◌, ℕ, ◌+◌, ◌<◌, ◌≤◌, Bool, true, false, List, length, map, slice_index}
-use Rattle.std.specs.Prelude.{slice_index_or, Contains}
+use Rattle.std.specs.Prelude.{◌≡◌, ◌↔◌, ℕ, ◌+◌, ◌<◌, ◌≤◌, Bool, true, false, List, Some, length, map, slice_get}
+use Rattle.std.specs.Prelude.{slice_index, slice_index_or, Contains}
 use Rattle.awk_ere.specs.Program.{IsSound}
 use Rattle.awk_ere.specs.Search.{IsBlank, Takes}
 use Rattle.awk_ere.specs.Table.{steps_of, AreEdges, IsLed}
 use Rattle.awk_ere.specs.declared.program.Instruction.{Instruction}
-use Rattle.awk_ere.specs.declared.states.TheConstants.{UNKNOWN}
+use Rattle.awk_ere.specs.declared.program.Instruction.TheVariants.{Eat, Fork, AtStart, AtEnd, Done, Hole}
+use Rattle.awk_ere.specs.declared.states.TheConstants.{SLOTS, UNKNOWN}
 use Rattle.awk_ere.specs.declared.states.Maker.{Maker}
 use Rattle.awk_ere.specs.declared.states.Room.{Room}
 use Rattle.awk_ere.specs.declared.states.States.{States}
@@ -27,10 +28,27 @@ pub record AreMadeBy (program : List Instruction) (lists kernels : List (List �
   pub len : length numbers ≡ length kernels
   pub each : (i : ℕ) → i < length kernels → IsMadeBy program lists (steps_of kernels i) (slice_index numbers i)
 
--- the states know by which kernels they were made, and have room for more
+-- the states know by which kernels they were made, and have room for more; each hash has a slot
 pub record AreMade (program : List Instruction) (s : States) : Type 0 where
   pub room : IsRoom program s.room
   pub by : AreMadeBy program (lists_of s) (map (λ v. v.items) s.kernels.items) s.numbers.items
+  pub slots : length s.slots.items ≡ SLOTS
+
+-- whether the step takes a byte
+abbrev pub is_eat : Instruction → Bool
+is_eat (Eat k r) = true
+is_eat (Fork x y) = false
+is_eat (AtStart r) = false
+is_eat (AtEnd r) = false
+is_eat Done = false
+is_eat Hole = false
+
+abbrev pub IsEat : List Instruction → ℕ → Type 0
+IsEat program q = (x : Instruction) × (slice_get program q ≡ Some x) × (is_eat x ≡ true)
+
+-- these are the steps of the list that take a byte
+abbrev pub AreEating : List Instruction → List ℕ → List ℕ → Type 0
+AreEating program list eating = (q : ℕ) → Contains eating q ↔ (Contains list q × IsEat program q)
 
 -- where the byte b is no edge, each step of the list takes it where it takes the byte before
 abbrev pub AreListEdges : List (List Bool) → List Instruction → List ℕ → List Bool → Type 0

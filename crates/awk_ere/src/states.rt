@@ -7,7 +7,8 @@ ghost use Rattle.awk_ere.specs.Search.{mark, target_of, IsBlank, IsClosed, Takes
 ghost use Rattle.awk_ere.specs.Table.{steps_of, Gains, LeadsMore, IsLed, AreLed, AreMarked, AreTargets, Later};
 ghost use Rattle.awk_ere.specs.Table.{IsNumber, IsCell, IsKnown, AreEdges, AreRows, AreFlags, EndsAtLast, IsFirst};
 ghost use Rattle.awk_ere.specs.Table.{IsBegin, IsDead, IsBuilt, AreHeads, AreSpread};
-ghost use Rattle.awk_ere.specs.Making.{lists_of, AreListEdges, AreMade, AreRuns, IsMadeBy, IsMaker, IsRoom};
+ghost use Rattle.awk_ere.specs.Making.{is_eat, lists_of, AreEating, AreListEdges, AreMade, AreRuns, IsEat, IsMadeBy};
+ghost use Rattle.awk_ere.specs.Making.{IsMaker, IsRoom};
 ghost use Rattle.awk_ere.specs.declared.program.Instruction.{Instruction};
 
 use crate::bracket::Set;
@@ -28,6 +29,12 @@ const MAX_STEPS: usize = 2000;
 
 /// How much work may be done for a table: about how many steps are looked at.
 const MAX_WORK: usize = 1_000_000;
+
+/// How many hashes kernels have.
+const SLOTS: usize = 1024;
+
+/// An odd number without a pattern in its bits, by which a hash is multiplied.
+const MIXER: usize = 0x9E37_79B9_7F4A_7C15;
 
 /// The edges of a step cost as much as looking at so many steps, since it may take a set of bytes.
 const EDGE_WORK: usize = 8;
@@ -73,9 +80,10 @@ struct States {
     /// state that each of them makes: most cells have one that another cell had.
     kernels: Vec<Vec<usize>>,
     numbers: Vec<u8>,
-    /// For each byte the place of the kernel that it led to last: mostly it leads there from other states too.
-    last: [u8; 256],
-    /// The kernel of the cell that is being made.
+    /// For each hash the place of the last kernel that has it.
+    slots: Vec<u16>,
+    /// The steps that take bytes of the state whose row is being made, and the kernel of the cell that is.
+    eats: Vec<usize>,
     found: Vec<usize>,
     room: Room,
     work: usize,
@@ -282,6 +290,61 @@ pub fn steps_after(
     Ok(steps)
 }
 
+/// Whether the step takes a byte.
+fn eats(step: Instruction) -> bool
+    ensures { result ≡ is_eat step }
+{
+    match step {
+        Instruction::Eat(_, _) => true,
+        Instruction::Fork(_, _)
+        | Instruction::AtStart(_)
+        | Instruction::AtEnd(_)
+        | Instruction::Done
+        | Instruction::Hole => false,
+    }
+}
+
+/// Adds the step where it takes a byte.
+fn push_eating(program: &[Instruction], at: usize, found: &mut Vec<usize>) -> Result<(), AllocError>
+    ensures { OnOk result (Gains (λ p. (p ≡ at) × IsEat program.now at) found.old.items found.new.items) }
+{
+    match program.get(at) {
+        None => Ok(()),
+        Some(step) => {
+            if eats(*step) {
+                found.push(at)?;
+            }
+            Ok(())
+        }
+    }
+}
+
+/// Finds the steps of the list that take a byte.
+fn find_eating(
+    program: &[Instruction],
+    list: &[usize],
+    found: &mut Vec<usize>,
+) -> Result<(), AllocError>
+    ensures { OnOk result (AreEating program.now list.now found.new.items) }
+{
+    found.clear();
+    for at in list {
+        push_eating(program, *at, found)?;
+    }
+    Ok(())
+}
+
+/// A hash of the kernel.
+fn slot_of(kernel: &[usize]) -> usize
+    ensures { result < SLOTS }
+{
+    let mut hash = 0usize;
+    for at in kernel {
+        hash = hash.wrapping_add(*at).wrapping_add(1).wrapping_mul(MIXER);
+    }
+    (hash >> 32) % SLOTS
+}
+
 /// Fills the row with the state, from the byte on.
 fn fill_from(row: &mut [u8; 256], byte: usize, state: u8)
     requires { byte < 256 }
@@ -311,6 +374,7 @@ impl<'a> Maker<'a> {
         requires made { AreMade self.now.program.now states.old }
         ensures made { OnOk result (AreMade self.now.program.now states.new) }
         ensures later { OnOk result (Later (lists_of states.old) (lists_of states.new)) }
+        ensures eats { OnOk result (states.new.eats.items ≡ states.old.eats.items) }
         ensures state { IfOk result
             (λ n. IsMadeBy self.now.program.now (lists_of states.new) states.old.found.items n) }
     {
@@ -325,48 +389,31 @@ impl<'a> Maker<'a> {
         Ok(state)
     }
 
-    /// The state of the kernel that was found, which is looked for among all that are known, and made where it is new.
-    #[inline(never)]
-    fn state_of_found(&self, byte: u8, states: &mut States) -> Result<u8, AllocError>
+    /// The state after the byte, from the steps that take bytes. Most cells have a kernel that another one had.
+    fn cell(&self, byte: u8, states: &mut States) -> Result<u8, AllocError>
         requires sound { IsSound self.now.program.now }
         requires made { AreMade self.now.program.now states.old }
         ensures made { OnOk result (AreMade self.now.program.now states.new) }
         ensures later { OnOk result (Later (lists_of states.old) (lists_of states.new)) }
-        ensures state { IfOk result
-            (λ n. IsMadeBy self.now.program.now (lists_of states.new) states.old.found.items n) }
+        ensures eats { OnOk result (states.new.eats.items ≡ states.old.eats.items) }
+        ensures known { IfOk result (λ n. IsKnown self.now.sets.now self.now.program.now byte states.old.eats.items
+            (lists_of states.new) n) }
     {
-        let count = states.kernels.len();
-        states.work = states.work.saturating_sub(count);
-        match place_of(&states.kernels, &states.found) {
-            Some(kernel) => {
-                states.last[byte as usize] = kernel.min(255) as u8;
-                Ok(states.numbers[kernel])
-            }
-            None => {
-                states.last[byte as usize] = count.min(255) as u8;
-                self.add_kernel(states)
-            }
+        find_targets(
+            self.sets,
+            self.program,
+            &states.eats,
+            byte,
+            &mut states.found,
+        )?;
+        states.work = states.work.saturating_sub(states.eats.len());
+        let slot = slot_of(&states.found);
+        let kernel = states.slots[slot] as usize;
+        if is_at(&states.kernels, kernel, &states.found) {
+            return Ok(states.numbers[kernel]);
         }
-    }
-
-    /// The state after the byte. Mostly the kernel is the one that the byte led to last.
-    fn cell(&self, at: usize, byte: u8, states: &mut States) -> Result<u8, AllocError>
-        requires sound { IsSound self.now.program.now }
-        requires made { AreMade self.now.program.now states.old }
-        requires inside { at < length states.old.lists.items }
-        ensures made { OnOk result (AreMade self.now.program.now states.new) }
-        ensures later { OnOk result (Later (lists_of states.old) (lists_of states.new)) }
-        ensures known { IfOk result (λ n. IsKnown self.now.sets.now self.now.program.now byte
-            (steps_of (lists_of states.old) at) (lists_of states.new) n) }
-    {
-        let list = states.lists[at].as_slice();
-        find_targets(self.sets, self.program, list, byte, &mut states.found)?;
-        states.work = states.work.saturating_sub(list.len());
-        let last = states.last[byte as usize] as usize;
-        if is_at(&states.kernels, last, &states.found) {
-            return Ok(states.numbers[last]);
-        }
-        let state = self.state_of_found(byte, states)?;
+        states.slots[slot] = states.kernels.len().min(u16::MAX as usize) as u16;
+        let state = self.add_kernel(states)?;
         Ok(state)
     }
 
@@ -382,15 +429,15 @@ impl<'a> Maker<'a> {
             (λ row. (b : ℕ) → b < 256 → IsKnown self.now.sets.now self.now.program.now b
             (steps_of (lists_of states.old) at) (lists_of states.new) (slice_index row b)) }
     {
-        let list = states.lists[at].as_slice();
-        let edges = list_edges(self.sets, self.program, list);
-        let work = list.len().saturating_mul(EDGE_WORK);
+        find_eating(self.program, states.lists[at].as_slice(), &mut states.eats)?;
+        let edges = list_edges(self.sets, self.program, &states.eats);
+        let work = states.eats.len().saturating_mul(EDGE_WORK);
         states.work = states.work.saturating_sub(work);
         let mut row = [UNKNOWN; 256];
         let mut byte = 0usize;
         while byte < 256 {
             if edges[byte] {
-                let state = self.cell(at, byte as u8, states)?;
+                let state = self.cell(byte as u8, states)?;
                 fill_from(&mut row, byte, state);
             }
             byte = self.alike[byte] as usize + 1;
@@ -517,7 +564,7 @@ fn accepting(alloc: Global, lists: &[Vec<usize>], count: usize) -> Result<Vec<bo
     ensures { IfOk result
         (λ flags. AreFlags (λ q. Contains (steps_of (map (λ v. v.items) lists.now) q) 0) count flags.items) }
 {
-    let mut flags = Vec::new(alloc);
+    let mut flags = Vec::with_capacity(alloc, count)?;
     for at in 0..count {
         flags.push(has_done(lists[at].as_slice()))?;
     }
@@ -569,7 +616,7 @@ fn ending(
         (λ flags. AreFlags (λ q. EndsAtLast program.now (steps_of (map (λ v. v.items) lists.now) q)) count
         flags.items) }
 {
-    let mut flags = Vec::new(alloc);
+    let mut flags = Vec::with_capacity(alloc, count)?;
     for at in 0..count {
         let flag = ends_in(program, lists[at].as_slice(), room)?;
         flags.push(flag)?;
@@ -728,23 +775,31 @@ fn blank(
     }
 }
 
+/// About how many states a table has: most have one for each step of the program.
+fn likely_count(program: &[Instruction]) -> usize {
+    program.len().min(UNKNOWN as usize)
+}
+
 /// The states of a table before any is met: the one that has no step. A byte that leads nowhere leads to it.
 fn no_states(alloc: Global, program: &[Instruction]) -> Result<States, AllocError>
     ensures dead { IfOk result (λ states. IsDead (lists_of states)) }
     ensures made { IfOk result (λ states. AreMade program.now states) }
 {
-    let mut lists = Vec::new(alloc);
+    let count = likely_count(program);
+    let mut lists = Vec::with_capacity(alloc, count)?;
     lists.push(Vec::new(alloc))?;
-    let mut kernels = Vec::new(alloc);
+    let mut kernels = Vec::with_capacity(alloc, count)?;
     kernels.push(Vec::new(alloc))?;
-    let mut numbers = Vec::new(alloc);
+    let mut numbers = Vec::with_capacity(alloc, count)?;
     numbers.push(DEAD)?;
+    let slots = vec![in alloc; 0u16; SLOTS]?;
     let room = Room::new(alloc, program.len())?;
     Ok(States {
         lists,
         kernels,
         numbers,
-        last: [0; 256],
+        slots,
+        eats: Vec::new(alloc),
         found: Vec::new(alloc),
         room,
         work: MAX_WORK,
@@ -794,7 +849,7 @@ fn full_table(
     // Where each match starts at the text's start, no later start is looked for.
     let is_scanned = !is_anchored(program, entry);
     let mut states = no_states(alloc, program)?;
-    let mut cells = Vec::new(alloc);
+    let mut cells = Vec::with_capacity(alloc, likely_count(program))?;
     // The states of searches from one start come first: they find the matches, and most are small.
     let entry = maker.begin(true, entry, &mut states, &mut cells)?;
     let scan = maker.begin(is_scanned, scan, &mut states, &mut cells)?;

@@ -4,7 +4,7 @@ use Rattle.awk_ere.proofs.Gathering.{steps_is, flags_begin, flags_push}
 use Rattle.awk_ere.proofs.states.accepting.Goals as goal
 
 pub loop-at-init : goal.loop-at-init
-loop-at-init c = rw c.new-flags.ensures.items (flags_begin _)
+loop-at-init c = rw c.in_ok-flags.ensures.items (flags_begin _)
 
 pub loop-at-preserved : goal.loop-at-preserved
 loop-at-preserved c =

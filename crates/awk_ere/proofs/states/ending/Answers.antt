@@ -4,7 +4,7 @@ use Rattle.awk_ere.proofs.Gathering.{steps_is, flags_begin, flags_push}
 use Rattle.awk_ere.proofs.states.ending.Goals as goal
 
 pub loop-at-init : goal.loop-at-init
-loop-at-init c = record { flags = rw c.new-flags.ensures.items (flags_begin _); room = c.requires.room }
+loop-at-init c = record { flags = rw c.in_ok-flags.ensures.items (flags_begin _); room = c.requires.room }
 
 pub loop-at-preserved : goal.loop-at-preserved
 loop-at-preserved c =

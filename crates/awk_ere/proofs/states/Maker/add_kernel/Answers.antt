@@ -13,6 +13,7 @@ returns-clause-made c =
           (ap (λ ks. map (λ v. v.items) ks) c.in_ok-push.ensures.items ∙ map_push (λ v. v.items) _ _)
           c.in_ok-push-2.ensures.items
           (rw (c.in_ok-kernel.ensures.items, c.deref-2.ensures.value) is) (made_later _ _ _ _ _ c.in_ok-state.ensures.later c.requires.made.by);
+      slots = c.requires.made.slots;
     }
 
 pub returns-clause-state : goal.returns-clause-state

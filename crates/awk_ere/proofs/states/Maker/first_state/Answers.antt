@@ -10,4 +10,5 @@ pub returns-clause-made : goal.returns-clause-made
 returns-clause-made c = record {
   room = c.in_ok-steps.ensures.room;
   by = made_later _ _ _ _ _ c.in_ok-at.ensures.later c.requires.made.by;
+  slots = c.requires.made.slots;
 }
