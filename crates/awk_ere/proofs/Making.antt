@@ -1,20 +1,23 @@
 -- How the rows of a table are made, and the states that they name.
-use Rattle.std.proofs.Common.{◌≡◌, ◌↔◌, ℕ, zero, suc, ◌+◌, ◌<◌, ◌≤◌, inl, inr, Bool, true, false, List, [], ◌∷◌, ◌++◌}
+use Rattle.std.proofs.Common.{◌≡◌, ◌↔◌, ◌⊎◌, ℕ, zero, suc, ◌+◌, ◌<◌, ◌≤◌, inl, inr, Bool, true, false, List, [], ◌∷◌, ◌++◌}
 use Rattle.std.proofs.Common.{◌-◌, Some, length, get_or, map, refl, sym, ◌∙◌, ap, subst, arith}
 use Rattle.std.proofs.Math.ListN.{length-append, length-set, set}
 use Rattle.std.specs.List.{slice_get, Contains}
 use Rattle.std.proofs.lemmas.Bool.{cases_lt, cases_eq}
 use Rattle.std.proofs.lemmas.List.{get_or_default, get_or-set_same, get_or-set_other}
-use Rattle.awk_ere.specs.Program.{IsSound}
+use Rattle.awk_ere.specs.Program.{Skips, left, right, at_start, at_end, SkipPath, IsSound}
 use Rattle.awk_ere.specs.Search.{mark, target_of, Takes}
 use Rattle.awk_ere.specs.Table.{steps_of, Gains, IsLed, AreLed, AreTargets, IsKnown, IsNumber, AreEdges, EndsAtLast, Later}
 use Rattle.awk_ere.specs.Making.{is_eat, IsEat, IsMadeBy, AreEating, AreMadeBy, AreListEdges, AreRuns}
+use Rattle.awk_ere.specs.Making.{is_at_end, AreClosed, IsClosedList, NoneWait}
 use Rattle.awk_ere.specs.declared.program.Instruction.{Instruction}
-use Rattle.awk_ere.specs.declared.program.Instruction.TheVariants.{Eat}
+use Rattle.awk_ere.specs.declared.program.Instruction.TheVariants.{Eat, AtEnd}
 use Rattle.awk_ere.specs.declared.search.TheConstants.{NONE}
 use Rattle.awk_ere.proofs.Advance.{takes_target, target_takes}
 use Rattle.std.proofs.lemmas.List.Elements.{Contains-get_or}
-use Rattle.awk_ere.proofs.Gathering.{IsGathered, gained_none, gained_one}
+use Rattle.std.proofs.lemmas.Option.{slice_get_within}
+use Rattle.awk_ere.proofs.Reach.{skip_more}
+use Rattle.awk_ere.proofs.Gathering.{IsGathered, gained_none, gained_one, map_push}
 use Rattle.awk_ere.proofs.Gathering.{cell_by, known_same, known_later, later_steps, later_length, leads_inside}
 
 -- a mark of the first step says whether a match ends at the text's end
@@ -26,6 +29,76 @@ ends_marked program list starts least b some led is test = (
   (λ h. test.1 (let lt = led.complete h.0 0 (leads_inside program false true h.0 some h.2) h.1 h.2 in
       omega (arith, lt, is))),
 )
+
+last_list : (lists : List (List ℕ)) (list : List ℕ) → steps_of (lists ++ list ∷ []) (length lists) ≡ list
+last_list [] list = refl
+last_list (x ∷ xs) list = last_list xs list
+
+-- states are closed
+module _ (program : List Instruction) where
+  inside_first : (first last : Bool) (n y p : ℕ) → SkipPath program first last (suc n) y p → y < length program
+  inside_first first last n y p (x, skip, path) = by_skip skip where
+    by_skip : Skips program first last y x → y < length program
+    by_skip (left other h) = slice_get_within program _ _ h
+    by_skip (right other h) = slice_get_within program _ _ h
+    by_skip (at_start h f) = slice_get_within program _ _ h
+    by_skip (at_end h f) = slice_get_within program _ _ h
+
+  skips_so : (first last : Bool) (q r : ℕ) → Skips program false false q r → Skips program first last q r
+  skips_so first last q r (left other h) = left other h
+  skips_so first last q r (right other h) = right other h
+  skips_so first last q r (at_start h f) = absurd (cc)
+  skips_so first last q r (at_end h f) = absurd (cc)
+
+  pub closed_led : (first : Bool) (list steps : List ℕ) → IsLed program first false list steps
+      → IsClosedList program steps
+  closed_led first list steps led = λ x p member skip.
+      let (y, had, leads) = led.sound x member in
+      let on = skip_more program first false leads.0 y x p leads.1 (skips_so first false x p skip) in
+      led.complete y p (inside_first first false leads.0 y p on) had (suc leads.0, on)
+
+  pub closed_grown : {V : Type 0} (f : V → List ℕ) (xs ys : List V) (v : V) → (ys ≡ xs) ⊎ (ys ≡ xs ++ v ∷ [])
+      → IsClosedList program (f v) → AreClosed program (map f xs) → AreClosed program (map f ys)
+  closed_grown f xs ys v (inl same) new h = subst (λ zs. AreClosed program (map f zs)) (sym same) h
+  closed_grown f xs ys v (inr more) new h =
+      let lists = map f xs in
+      let is : map f ys ≡ lists ++ f v ∷ [] = ap (λ z. map f z) more ∙ map_push f xs v in
+      subst (λ zs. AreClosed program zs) (sym is) (λ q lt. elim (cases_lt q (length lists)) [
+        | inl less ↦ subst (λ l. IsClosedList program l) (sym (later_steps lists (lists ++ f v ∷ []) q less
+            (f v ∷ [], refl))) (h q less)
+        | inr ge ↦
+            let at : q ≡ length lists = omega (arith, lt, ge, length-append {A = List ℕ}) in
+            subst (λ l. IsClosedList program l)
+            (sym (ap (λ k. steps_of (lists ++ f v ∷ []) k) at ∙ last_list lists (f v))) new
+      ])
+
+  pub closed_first : (lists : List (List ℕ)) → lists ≡ [] ∷ [] → AreClosed program lists
+  closed_first lists is = subst (λ zs. AreClosed program zs) (sym is) (λ q lt x p member skip.
+      absurd (let z : q ≡ 0 = omega (arith, lt) in
+      let none = subst (λ k. Contains (steps_of ([] ∷ []) k) x) z member in omega (arith, none.1)))
+
+  -- where no step waits for the text's end, none leads further there
+  pub ends_closed : (list : List ℕ) (b : Bool) → IsClosedList program list → NoneWait program list
+      → (b ≡ true) ↔ Contains list 0 → (b ≡ true) ↔ EndsAtLast program list
+  ends_closed list b closed none is = (
+    (λ t. (0, is.0 t, (0, refl))),
+    (λ h. is.1 (follow h.2.0 h.0 h.1 h.2.1)),
+  ) where
+    follow : (n x : ℕ) → Contains list x → SkipPath program false true n x 0 → Contains list 0
+    follow zero x member same = subst (λ y. Contains list y) same member
+    follow (suc n) x member (p, skip, path) = follow n p (by_skip skip) path where
+      by_skip : Skips program false true x p → Contains list p
+      by_skip (left other h) = closed x p member (left other h)
+      by_skip (right other h) = closed x p member (right other h)
+      by_skip (at_start h f) = absurd (cc)
+      by_skip (at_end h f) = absurd (let e = none x (AtEnd p) member h in cc)
+
+  pub waits_gathered : (list : List ℕ) (k : ℕ) → length list ≤ k
+      → ((i : ℕ) (x : Instruction) → i < k → i < length list → slice_get program (get_or list i 0) ≡ Some x
+      → is_at_end x ≡ false) → NoneWait program list
+  waits_gathered list k all h = λ q x member at.
+      let e = get_or_default list member.0 0 q member.1 ∙ member.2 in
+      h member.0 x (omega (arith, member.1)) member.1 (subst (λ y. slice_get program y ≡ Some x) (sym e) at)
 
 -- a list without steps is the first one
 pub first_list : {V : Type 0} (f : V → List ℕ) (xs ys : List V) (x : V) → xs ≡ [] → f x ≡ [] → ys ≡ xs ++ x ∷ []
@@ -49,10 +122,6 @@ module _ (program : List Instruction) where
           (sym (later_steps lists all (get_or numbers i 0) y.0 later)) y.1,
     );
   }
-
-  last_kernel : (kernels : List (List ℕ)) (kernel : List ℕ) → steps_of (kernels ++ kernel ∷ []) (length kernels) ≡ kernel
-  last_kernel [] kernel = refl
-  last_kernel (x ∷ xs) kernel = last_kernel xs kernel
 
   last_number : (numbers : List ℕ) (n : ℕ) → get_or (numbers ++ n ∷ []) (length numbers) 0 ≡ n
   last_number [] n = refl
@@ -83,7 +152,7 @@ module _ (program : List Instruction) where
               let at : i ≡ length kernels = omega (arith, lt, ge, e, length-append {A = List ℕ}) in
               let at' : i ≡ length numbers = omega (arith, at, h.len) in
               subst (λ x. IsMadeBy program lists x (get_or (numbers ++ n ∷ []) i 0))
-              (sym (ap (λ k. steps_of (kernels ++ kernel ∷ []) k) at ∙ last_kernel kernels kernel))
+              (sym (ap (λ k. steps_of (kernels ++ kernel ∷ []) k) at ∙ last_list kernels kernel))
               (subst (λ x. IsMadeBy program lists kernel x)
               (sym (ap (λ k. get_or (numbers ++ n ∷ []) k 0) at' ∙ last_number numbers n)) one)
         ]));

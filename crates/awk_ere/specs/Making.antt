@@ -1,7 +1,7 @@
 -- How the rows of a table are made.
 use Rattle.std.specs.Prelude.{◌≡◌, ◌↔◌, ℕ, ◌+◌, ◌<◌, ◌≤◌, Bool, true, false, List, Some, length, map, slice_get}
 use Rattle.std.specs.Prelude.{slice_index, slice_index_or, Contains}
-use Rattle.awk_ere.specs.Program.{IsSound}
+use Rattle.awk_ere.specs.Program.{IsSound, Skips}
 use Rattle.awk_ere.specs.Search.{IsBlank, Takes}
 use Rattle.awk_ere.specs.Table.{steps_of, AreEdges, IsLed}
 use Rattle.awk_ere.specs.declared.program.Instruction.{Instruction}
@@ -28,11 +28,31 @@ pub record AreMadeBy (program : List Instruction) (lists kernels : List (List �
   pub len : length numbers ≡ length kernels
   pub each : (i : ℕ) → i < length kernels → IsMadeBy program lists (steps_of kernels i) (slice_index numbers i)
 
+-- what a step of the list leads to without reading, with bytes on both sides, is in the list
+abbrev pub IsClosedList : List Instruction → List ℕ → Type 0
+IsClosedList program list = (q r : ℕ) → Contains list q → Skips program false false q r → Contains list r
+
+abbrev pub AreClosed : List Instruction → List (List ℕ) → Type 0
+AreClosed program lists = (q : ℕ) → q < length lists → IsClosedList program (steps_of lists q)
+
+-- whether the step waits for the text's end
+abbrev pub is_at_end : Instruction → Bool
+is_at_end (Eat k r) = false
+is_at_end (Fork x y) = false
+is_at_end (AtStart r) = false
+is_at_end (AtEnd r) = true
+is_at_end Done = false
+is_at_end Hole = false
+
+abbrev pub NoneWait : List Instruction → List ℕ → Type 0
+NoneWait program list = (q : ℕ) (x : Instruction) → Contains list q → slice_get program q ≡ Some x → is_at_end x ≡ false
+
 -- the states know by which kernels they were made, and have room for more; each hash has a slot
 pub record AreMade (program : List Instruction) (s : States) : Type 0 where
   pub room : IsRoom program s.room
   pub by : AreMadeBy program (lists_of s) (map (λ v. v.items) s.kernels.items) s.numbers.items
   pub slots : length s.slots.items ≡ SLOTS
+  pub closed : AreClosed program (lists_of s)
 
 -- whether the step takes a byte
 abbrev pub is_eat : Instruction → Bool

@@ -1,6 +1,6 @@
 // The states of a table: sets of steps, with their cells.
-ghost use Rattle.std.specs.Prelude.{◌≡◌, ◌≢◌, ◌↔◌, ◌+◌, ◌<◌, ◌≤◌, ℕ, [], true, false, length, map, slice_get, Some};
-ghost use Rattle.std.specs.Prelude.{slice_index, Contains, IfOk, OnOk, IfSome, if◌then◌else◌};
+ghost use Rattle.std.specs.Prelude.{◌≡◌, ◌≢◌, ◌↔◌, ◌⊎◌, ◌+◌, ◌++◌, ◌<◌, ◌≤◌, ◌∷◌, [], ℕ, true, false, length, map};
+ghost use Rattle.std.specs.Prelude.{Some, slice_get, slice_index, Contains, IfOk, OnOk, IfSome, if◌then◌else◌};
 ghost use Rattle.awk_ere.specs.Lexing.{has};
 ghost use Rattle.awk_ere.specs.Program.{IsSound, holds};
 ghost use Rattle.awk_ere.specs.Search.{mark, target_of, IsBlank, IsClosed, Takes};
@@ -8,7 +8,7 @@ ghost use Rattle.awk_ere.specs.Table.{steps_of, Gains, LeadsMore, IsLed, AreLed,
 ghost use Rattle.awk_ere.specs.Table.{IsNumber, IsCell, IsKnown, AreEdges, AreRows, AreFlags, EndsAtLast, IsFirst};
 ghost use Rattle.awk_ere.specs.Table.{IsBegin, IsDead, IsBuilt, AreHeads, AreSpread};
 ghost use Rattle.awk_ere.specs.Making.{is_eat, lists_of, AreEating, AreListEdges, AreMade, AreRuns, IsEat, IsMadeBy};
-ghost use Rattle.awk_ere.specs.Making.{IsMaker, IsRoom};
+ghost use Rattle.awk_ere.specs.Making.{IsMaker, IsRoom, AreClosed, IsClosedList, NoneWait, is_at_end};
 ghost use Rattle.awk_ere.specs.declared.program.Instruction.{Instruction};
 
 use crate::bracket::Set;
@@ -249,6 +249,8 @@ fn is_at(lists: &[Vec<usize>], at: usize, list: &[usize]) -> bool
 fn number(lists: &mut Vec<Vec<usize>>, list: Vec<usize>) -> Result<u8, AllocError>
     ensures later { OnOk result (Later (map (λ v. v.items) lists.old.items) (map (λ v. v.items) lists.new.items)) }
     ensures number { IfOk result (λ n. IsNumber list.items (map (λ v. v.items) lists.new.items) n) }
+    ensures grown { OnOk result
+        ((lists.new.items ≡ lists.old.items) ⊎ (lists.new.items ≡ lists.old.items ++ list ∷ [])) }
 {
     match place_of(lists, &list) {
         Some(at) => {
@@ -600,6 +602,59 @@ pub fn ends_at_last(
     Ok(ends)
 }
 
+/// Whether the step waits for the text's end.
+fn waits(step: Instruction) -> bool
+    ensures { result ≡ is_at_end step }
+{
+    match step {
+        Instruction::AtEnd(_) => true,
+        Instruction::Eat(_, _)
+        | Instruction::Fork(_, _)
+        | Instruction::AtStart(_)
+        | Instruction::Done
+        | Instruction::Hole => false,
+    }
+}
+
+/// The same of the step with this number, where the program has it.
+fn waits_at(program: &[Instruction], at: usize) -> bool
+    ensures { result ≡ false → (x : Instruction) → slice_get program.now at ≡ Some x → is_at_end x ≡ false }
+{
+    match program.get(at) {
+        None => false,
+        Some(step) => waits(*step),
+    }
+}
+
+/// Whether a step of the list waits for the text's end.
+fn some_wait(program: &[Instruction], list: &[usize]) -> bool
+    ensures { result ≡ false → NoneWait program.now list.now }
+{
+    for at in list {
+        if waits_at(program, *at) {
+            return true;
+        }
+    }
+    false
+}
+
+/// Whether a match ends at the steps of a state where the text ends. Only a step that waits for the end leads on there.
+fn state_ends(program: &[Instruction], list: &[usize], room: &mut Room) -> Result<bool, AllocError>
+    requires sound { IsSound program.now }
+    requires some { 0 < length program.now }
+    requires closed { IsClosedList program.now list.now }
+    requires room { IsRoom program.now room.old }
+    ensures ends { IfOk result (λ b. (b ≡ true) ↔ EndsAtLast program.now list.now) }
+    ensures room { OnOk result (IsRoom program.now room.new) }
+{
+    if some_wait(program, list) {
+        let ends = ends_in(program, list, room)?;
+        Ok(ends)
+    } else {
+        Ok(has_done(list))
+    }
+}
+
 /// In which of the first states a match ends where the text ends.
 fn ending(
     alloc: Global,
@@ -611,6 +666,7 @@ fn ending(
     requires sound { IsSound program.now }
     requires some { 0 < length program.now }
     requires inside { count ≤ length lists.now }
+    requires closed { AreClosed program.now (map (λ v. v.items) lists.now) }
     requires room { IsRoom program.now room.old }
     ensures { IfOk result
         (λ flags. AreFlags (λ q. EndsAtLast program.now (steps_of (map (λ v. v.items) lists.now) q)) count
@@ -618,7 +674,7 @@ fn ending(
 {
     let mut flags = Vec::with_capacity(alloc, count)?;
     for at in 0..count {
-        let flag = ends_in(program, lists[at].as_slice(), room)?;
+        let flag = state_ends(program, lists[at].as_slice(), room)?;
         flags.push(flag)?;
     }
     Ok(flags)

@@ -1,6 +1,7 @@
 use Rattle.std.proofs.Common.{◌≡◌, ◌↔◌, true, map, sym, ◌∙◌, subst, arith}
+use Rattle.awk_ere.specs.Making.{IsClosedList}
 use Rattle.awk_ere.specs.Table.{steps_of, AreFlags, EndsAtLast}
-use Rattle.awk_ere.proofs.Gathering.{steps_is, flags_begin, flags_push}
+use Rattle.awk_ere.proofs.Gathering.{map_length, steps_is, flags_begin, flags_push}
 use Rattle.awk_ere.proofs.states.ending.Goals as goal
 
 pub loop-at-init : goal.loop-at-init
@@ -21,3 +22,11 @@ loop-at-preserved c =
 pub returns : goal.returns
 returns c = subst (λ n. AreFlags (λ q. EndsAtLast c.args.program.now (steps_of (map (λ v. v.items) c.args.lists.now) q)) n
     c.loop-at.flags.items) (omega arith) c.loop-at.invariant.flags
+
+pub state_ends-requires-clause-closed : goal.state_ends-requires-clause-closed
+state_ends-requires-clause-closed c =
+    let e : steps_of (map (λ v. v.items) c.args.lists.now) c.loop-at.at ≡ c.index-lists-at.result.items =
+    steps_is _ c.args.lists.now _ _ (omega arith) c.index-lists-at.is in
+    let count = map_length (λ v. v.items) c.args.lists.now in
+    subst (λ x. IsClosedList c.args.program.now x) (e ∙ sym c.as_slice.ensures.value)
+    (c.requires.closed c.loop-at.at (omega (arith, count, c.loop-at-test.true, c.requires.inside)))

@@ -20,3 +20,6 @@ returns c =
       heads = rw (c.deref-3.ensures.value, c.deref-4.ensures.value) at c.heads_of-heads.ensures.heads;
       spread = c.heads_of-heads.ensures.spread;
     }
+
+pub ending-requires-clause-closed : goal.ending-requires-clause-closed
+ending-requires-clause-closed c = rw c.deref-2.ensures.value c.in_ok-scan.ensures.made.closed

@@ -8,7 +8,7 @@ use Rattle.awk_ere.proofs.states.Maker.row.Goals as goal
 
 pub loop-byte-init : goal.loop-byte-init
 loop-byte-init c = record {
-  made = record { room = c.requires.made.room; by = c.requires.made.by; slots = c.requires.made.slots };
+  made = record { room = c.requires.made.room; by = c.requires.made.by; slots = c.requires.made.slots; closed = c.requires.made.closed };
   later = later_self _;
   eats = refl;
   inside = omega arith;
