@@ -1,6 +1,6 @@
 -- How the rows of a table are made, and the states that they name.
 use Rattle.std.proofs.Common.{◌≡◌, ◌↔◌, ◌⊎◌, ℕ, zero, suc, ◌+◌, ◌<◌, ◌≤◌, inl, inr, Bool, true, false, List, [], ◌∷◌, ◌++◌}
-use Rattle.std.proofs.Common.{◌-◌, Some, length, get_or, map, refl, sym, ◌∙◌, ap, subst, arith}
+use Rattle.std.proofs.Common.{◌-◌, Some, length, get_or, refl, sym, ◌∙◌, ap, subst, arith}
 use Rattle.std.proofs.Math.ListN.{length-append, length-set, set}
 use Rattle.std.specs.List.{slice_get, Contains}
 use Rattle.std.proofs.lemmas.Bool.{cases_lt, cases_eq}
@@ -17,7 +17,7 @@ use Rattle.awk_ere.proofs.Advance.{takes_target, target_takes}
 use Rattle.std.proofs.lemmas.List.Elements.{Contains-get_or}
 use Rattle.std.proofs.lemmas.Option.{slice_get_within}
 use Rattle.awk_ere.proofs.Reach.{skip_more}
-use Rattle.awk_ere.proofs.Gathering.{IsGathered, gained_none, gained_one, map_push}
+use Rattle.awk_ere.proofs.Gathering.{IsGathered, gained_none, gained_one, later_self}
 use Rattle.awk_ere.proofs.Gathering.{cell_by, known_same, known_later, later_steps, later_length, leads_inside}
 
 -- a mark of the first step says whether a match ends at the text's end
@@ -57,19 +57,17 @@ module _ (program : List Instruction) where
       let on = skip_more program first false leads.0 y x p leads.1 (skips_so first false x p skip) in
       led.complete y p (inside_first first false leads.0 y p on) had (suc leads.0, on)
 
-  pub closed_grown : {V : Type 0} (f : V → List ℕ) (xs ys : List V) (v : V) → (ys ≡ xs) ⊎ (ys ≡ xs ++ v ∷ [])
-      → IsClosedList program (f v) → AreClosed program (map f xs) → AreClosed program (map f ys)
-  closed_grown f xs ys v (inl same) new h = subst (λ zs. AreClosed program (map f zs)) (sym same) h
-  closed_grown f xs ys v (inr more) new h =
-      let lists = map f xs in
-      let is : map f ys ≡ lists ++ f v ∷ [] = ap (λ z. map f z) more ∙ map_push f xs v in
-      subst (λ zs. AreClosed program zs) (sym is) (λ q lt. elim (cases_lt q (length lists)) [
-        | inl less ↦ subst (λ l. IsClosedList program l) (sym (later_steps lists (lists ++ f v ∷ []) q less
-            (f v ∷ [], refl))) (h q less)
+  pub closed_grown : (lists all : List (List ℕ)) (list : List ℕ) → (all ≡ lists) ⊎ (all ≡ lists ++ list ∷ [])
+      → IsClosedList program list → AreClosed program lists → AreClosed program all
+  closed_grown lists all list (inl same) new h = subst (λ zs. AreClosed program zs) (sym same) h
+  closed_grown lists all list (inr more) new h =
+      subst (λ zs. AreClosed program zs) (sym more) (λ q lt. elim (cases_lt q (length lists)) [
+        | inl less ↦ subst (λ l. IsClosedList program l) (sym (later_steps lists (lists ++ list ∷ []) q less
+            (list ∷ [], refl))) (h q less)
         | inr ge ↦
             let at : q ≡ length lists = omega (arith, lt, ge, length-append {A = List ℕ}) in
             subst (λ l. IsClosedList program l)
-            (sym (ap (λ k. steps_of (lists ++ f v ∷ []) k) at ∙ last_list lists (f v))) new
+            (sym (ap (λ k. steps_of (lists ++ list ∷ []) k) at ∙ last_list lists list)) new
       ])
 
   pub closed_first : (lists : List (List ℕ)) → lists ≡ [] ∷ [] → AreClosed program lists
@@ -100,10 +98,17 @@ module _ (program : List Instruction) where
       let e = get_or_default list member.0 0 q member.1 ∙ member.2 in
       h member.0 x (omega (arith, member.1)) member.1 (subst (λ y. slice_get program y ≡ Some x) (sym e) at)
 
--- a list without steps is the first one
-pub first_list : {V : Type 0} (f : V → List ℕ) (xs ys : List V) (x : V) → xs ≡ [] → f x ≡ [] → ys ≡ xs ++ x ∷ []
-    → map f ys ≡ [] ∷ []
-first_list f xs ys x none empty is = ap (λ z. map f z) (is ∙ ap (λ z. z ++ x ∷ []) none) ∙ ap (λ y. y ∷ []) empty
+pub grown_later : (lists all : List (List ℕ)) (list : List ℕ) → (all ≡ lists) ⊎ (all ≡ lists ++ list ∷ [])
+    → Later lists all
+grown_later lists all list (inl same) = subst (λ zs. Later lists zs) (sym same) (later_self lists)
+grown_later lists all list (inr more) = (list ∷ [], more)
+
+pub number_new : (lists all : List (List ℕ)) (list : List ℕ) (n : ℕ) → all ≡ lists ++ list ∷ [] → n ≡ length lists
+    → IsNumber list all n
+number_new lists all list n is at = λ small. (
+  (let e = ap length is in omega (arith, at, e, length-append {A = List ℕ})),
+  ap (λ k. steps_of all k) at ∙ ap (λ z. steps_of z (length lists)) is ∙ last_list lists list,
+)
 
 -- kernels
 module _ (program : List Instruction) where

@@ -1,5 +1,5 @@
 -- How the rows of a table are made.
-use Rattle.std.specs.Prelude.{◌≡◌, ◌↔◌, ℕ, ◌+◌, ◌<◌, ◌≤◌, Bool, true, false, List, Some, length, map, slice_get}
+use Rattle.std.specs.Prelude.{◌≡◌, ◌↔◌, ℕ, ◌+◌, ◌<◌, ◌≤◌, Bool, true, false, List, Some, length, slice_get}
 use Rattle.std.specs.Prelude.{slice_index, slice_index_or, Contains}
 use Rattle.awk_ere.specs.Program.{IsSound, Skips}
 use Rattle.awk_ere.specs.Search.{IsBlank, Takes}
@@ -14,9 +14,6 @@ use Rattle.awk_ere.specs.declared.states.States.{States}
 -- room for the marks of the program's steps, none of which is marked
 abbrev pub IsRoom : List Instruction → Room → Type 0
 IsRoom program r = (length r.starts ≡ length program) × IsBlank r.starts
-
-abbrev pub lists_of : States → List (List ℕ)
-lists_of s = map (λ v. v.items) s.lists.items
 
 -- where the number is that of a state, it has the steps that those of the kernel lead to without reading
 abbrev pub IsMadeBy : List Instruction → List (List ℕ) → List ℕ → ℕ → Type 0
@@ -50,9 +47,9 @@ NoneWait program list = (q : ℕ) (x : Instruction) → Contains list q → slic
 -- the states know by which kernels they were made, and have room for more; each hash has a slot
 pub record AreMade (program : List Instruction) (s : States) : Type 0 where
   pub room : IsRoom program s.room
-  pub by : AreMadeBy program (lists_of s) (map (λ v. v.items) s.kernels.items) s.numbers.items
+  pub by : AreMadeBy program s.lists s.kernels s.numbers.items
   pub slots : length s.slots.items ≡ SLOTS
-  pub closed : AreClosed program (lists_of s)
+  pub closed : AreClosed program s.lists
 
 -- whether the step takes a byte
 abbrev pub is_eat : Instruction → Bool

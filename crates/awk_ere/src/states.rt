@@ -1,5 +1,5 @@
 // The states of a table: sets of steps, with their cells.
-ghost use Rattle.std.specs.Prelude.{◌≡◌, ◌≢◌, ◌↔◌, ◌⊎◌, ◌+◌, ◌++◌, ◌<◌, ◌≤◌, ◌∷◌, [], ℕ, true, false, length, map};
+ghost use Rattle.std.specs.Prelude.{◌≡◌, ◌≢◌, ◌↔◌, ◌⊎◌, ◌+◌, ◌++◌, ◌<◌, ◌≤◌, ◌∷◌, [], ℕ, true, false, length};
 ghost use Rattle.std.specs.Prelude.{Some, slice_get, slice_index, Contains, IfOk, OnOk, IfSome, if◌then◌else◌};
 ghost use Rattle.awk_ere.specs.Lexing.{has};
 ghost use Rattle.awk_ere.specs.Program.{IsSound, holds};
@@ -7,12 +7,13 @@ ghost use Rattle.awk_ere.specs.Search.{mark, target_of, IsBlank, IsClosed, Takes
 ghost use Rattle.awk_ere.specs.Table.{steps_of, Gains, LeadsMore, IsLed, AreLed, AreMarked, AreTargets, Later};
 ghost use Rattle.awk_ere.specs.Table.{IsNumber, IsCell, IsKnown, AreEdges, AreRows, AreFlags, EndsAtLast, IsFirst};
 ghost use Rattle.awk_ere.specs.Table.{IsBegin, IsDead, IsBuilt, AreHeads, AreSpread};
-ghost use Rattle.awk_ere.specs.Making.{is_eat, lists_of, AreEating, AreListEdges, AreMade, AreRuns, IsEat, IsMadeBy};
+ghost use Rattle.awk_ere.specs.Making.{is_eat, AreEating, AreListEdges, AreMade, AreRuns, IsEat, IsMadeBy};
 ghost use Rattle.awk_ere.specs.Making.{IsMaker, IsRoom, AreClosed, IsClosedList, NoneWait, is_at_end};
 ghost use Rattle.awk_ere.specs.declared.program.Instruction.{Instruction};
 
 use crate::bracket::Set;
 use crate::heads::{Heads, any_heads, make_heads};
+use crate::pieces::StepLists;
 use crate::program::Instruction;
 use crate::search::{NONE, Starts, TextEnds, reach, target};
 use crate::token::Class;
@@ -75,16 +76,18 @@ impl Room {
 /// The states of a table so far, each by its steps, and how much work may still be done for more of them.
 #[derive(Drop)]
 struct States {
-    lists: Vec<Vec<usize>>,
+    lists: StepLists,
     /// The lists of steps that bytes lead to, before what those lead to without reading is added, and the number of the
     /// state that each of them makes: most cells have one that another cell had.
-    kernels: Vec<Vec<usize>>,
+    kernels: StepLists,
     numbers: Vec<u8>,
     /// For each hash the place of the last kernel that has it.
     slots: Vec<u16>,
-    /// The steps that take bytes of the state whose row is being made, and the kernel of the cell that is.
+    /// The steps that take bytes of the state whose row is being made, the kernel of the cell that is, and the steps of
+    /// a state that may be new.
     eats: Vec<usize>,
     found: Vec<usize>,
+    steps: Vec<usize>,
     room: Room,
     work: usize,
 }
@@ -181,34 +184,35 @@ fn push_marked(starts: &Starts, at: usize, list: &mut Vec<usize>) -> Result<(), 
     }
 }
 
-/// The marked steps, in order.
-fn marked(alloc: Global, starts: &Starts) -> Result<Vec<usize>, AllocError>
-    ensures { IfOk result (λ list. AreMarked starts.now list.items) }
+/// Finds the marked steps, in order.
+fn find_marked(starts: &Starts, list: &mut Vec<usize>) -> Result<(), AllocError>
+    ensures { OnOk result (AreMarked starts.now list.new.items) }
 {
-    let mut list = Vec::with_capacity(alloc, starts.count())?;
+    list.clear();
+    list.reserve(starts.count())?;
     for at in 0..starts.len() {
-        push_marked(starts, at, &mut list)?;
+        push_marked(starts, at, list)?;
     }
-    Ok(list)
+    Ok(())
 }
 
-/// The steps that those of the list lead to without reading.
-fn led_in(
-    alloc: Global,
+/// Finds the steps that those of the list lead to without reading.
+fn find_led(
     program: &[Instruction],
     ends: TextEnds,
     list: &[usize],
     room: &mut Room,
-) -> Result<Vec<usize>, AllocError>
+    led: &mut Vec<usize>,
+) -> Result<(), AllocError>
     requires sound { IsSound program.now }
     requires room { IsRoom program.now room.old }
-    ensures led { IfOk result (λ led. IsLed program.now ends.first ends.last list.now led.items) }
+    ensures led { OnOk result (IsLed program.now ends.first ends.last list.now led.new.items) }
     ensures room { OnOk result (IsRoom program.now room.new) }
 {
     lead(program, ends, list, room)?;
-    let found = marked(alloc, &room.starts)?;
+    find_marked(&room.starts, led)?;
     room.starts.clear();
-    Ok(found)
+    Ok(())
 }
 
 /// The same, with room of its own.
@@ -222,37 +226,36 @@ pub fn led(
     ensures { IfOk result (λ led. IsLed program.now ends.first ends.last list.now led.items) }
 {
     let mut room = Room::new(alloc, program.len())?;
-    let found = led_in(alloc, program, ends, list, &mut room)?;
+    let mut found = Vec::new(alloc);
+    find_led(program, ends, list, &mut room, &mut found)?;
     Ok(found)
 }
 
-/// The number of the list among the states.
-fn place_of(lists: &[Vec<usize>], list: &[usize]) -> Option<usize>
-    ensures { IfSome result (λ at. (at < length lists.now) × (steps_of (map (λ v. v.items) lists.now) at ≡ list.now)) }
+/// Whether the list stands at the place.
+fn is_at(lists: &StepLists, at: usize, list: &[usize]) -> bool
+    ensures { result ≡ true → (at < length lists.now) × (steps_of lists.now at ≡ list.now) }
+{
+    at < lists.len() && lists.list(at) == list
+}
+
+/// Where the list stands.
+fn place_of(lists: &StepLists, list: &[usize]) -> Option<usize>
+    ensures { IfSome result (λ at. (at < length lists.now) × (steps_of lists.now at ≡ list.now)) }
 {
     for at in 0..lists.len() {
-        if lists[at].as_slice() == list {
+        if is_at(lists, at, list) {
             return Some(at);
         }
     }
     None
 }
 
-/// Whether the list stands at the place.
-fn is_at(lists: &[Vec<usize>], at: usize, list: &[usize]) -> bool
-    ensures { result ≡ true → (at < length lists.now) × (steps_of (map (λ v. v.items) lists.now) at ≡ list.now) }
-{
-    at < lists.len() && lists[at].as_slice() == list
-}
-
 /// The number of the state with these steps, which is added where it is new and there is room.
-fn number(lists: &mut Vec<Vec<usize>>, list: Vec<usize>) -> Result<u8, AllocError>
-    ensures later { OnOk result (Later (map (λ v. v.items) lists.old.items) (map (λ v. v.items) lists.new.items)) }
-    ensures number { IfOk result (λ n. IsNumber list.items (map (λ v. v.items) lists.new.items) n) }
-    ensures grown { OnOk result
-        ((lists.new.items ≡ lists.old.items) ⊎ (lists.new.items ≡ lists.old.items ++ list ∷ [])) }
+fn number(lists: &mut StepLists, list: &[usize]) -> Result<u8, AllocError>
+    ensures grown { OnOk result ((lists.new ≡ lists.old) ⊎ (lists.new ≡ lists.old ++ list.now ∷ [])) }
+    ensures number { IfOk result (λ n. IsNumber list.now lists.new n) }
 {
-    match place_of(lists, &list) {
+    match place_of(lists, list) {
         Some(at) => {
             if at < UNKNOWN as usize {
                 Ok(at as u8)
@@ -362,7 +365,6 @@ fn fill_from(row: &mut [u8; 256], byte: usize, state: u8)
 /// program tells from it.
 #[derive(Clone, Copy)]
 struct Maker<'a> {
-    alloc: Global,
     sets: &'a [Set],
     program: &'a [Instruction],
     alike: &'a [u8; 256],
@@ -375,18 +377,23 @@ impl<'a> Maker<'a> {
         requires sound { IsSound self.now.program.now }
         requires made { AreMade self.now.program.now states.old }
         ensures made { OnOk result (AreMade self.now.program.now states.new) }
-        ensures later { OnOk result (Later (lists_of states.old) (lists_of states.new)) }
+        ensures later { OnOk result (Later states.old.lists states.new.lists) }
         ensures eats { OnOk result (states.new.eats.items ≡ states.old.eats.items) }
         ensures state { IfOk result
-            (λ n. IsMadeBy self.now.program.now (lists_of states.new) states.old.found.items n) }
+            (λ n. IsMadeBy self.now.program.now states.new.lists states.old.found.items n) }
     {
-        let (alloc, program) = (self.alloc, self.program);
-        let steps = led_in(alloc, program, INSIDE, &states.found, &mut states.room)?;
+        let program = self.program;
+        find_led(
+            program,
+            INSIDE,
+            &states.found,
+            &mut states.room,
+            &mut states.steps,
+        )?;
         let looked = program.len().saturating_add(states.lists.len());
         states.work = states.work.saturating_sub(looked);
-        let state = number(&mut states.lists, steps)?;
-        let kernel = Vec::from_slice(alloc, &states.found)?;
-        states.kernels.push(kernel)?;
+        let state = number(&mut states.lists, &states.steps)?;
+        states.kernels.push(&states.found)?;
         states.numbers.push(state)?;
         Ok(state)
     }
@@ -396,10 +403,10 @@ impl<'a> Maker<'a> {
         requires sound { IsSound self.now.program.now }
         requires made { AreMade self.now.program.now states.old }
         ensures made { OnOk result (AreMade self.now.program.now states.new) }
-        ensures later { OnOk result (Later (lists_of states.old) (lists_of states.new)) }
+        ensures later { OnOk result (Later states.old.lists states.new.lists) }
         ensures eats { OnOk result (states.new.eats.items ≡ states.old.eats.items) }
         ensures known { IfOk result (λ n. IsKnown self.now.sets.now self.now.program.now byte states.old.eats.items
-            (lists_of states.new) n) }
+            states.new.lists n) }
     {
         find_targets(
             self.sets,
@@ -424,14 +431,14 @@ impl<'a> Maker<'a> {
     fn row(&self, at: usize, states: &mut States) -> Result<[u8; 256], AllocError>
         requires maker { IsMaker self.now }
         requires made { AreMade self.now.program.now states.old }
-        requires inside { at < length states.old.lists.items }
+        requires inside { at < length states.old.lists }
         ensures made { OnOk result (AreMade self.now.program.now states.new) }
-        ensures later { OnOk result (Later (lists_of states.old) (lists_of states.new)) }
+        ensures later { OnOk result (Later states.old.lists states.new.lists) }
         ensures known { IfOk result
             (λ row. (b : ℕ) → b < 256 → IsKnown self.now.sets.now self.now.program.now b
-            (steps_of (lists_of states.old) at) (lists_of states.new) (slice_index row b)) }
+            (steps_of states.old.lists at) states.new.lists (slice_index row b)) }
     {
-        find_eating(self.program, states.lists[at].as_slice(), &mut states.eats)?;
+        find_eating(self.program, states.lists.list(at), &mut states.eats)?;
         let edges = list_edges(self.sets, self.program, &states.eats);
         let work = states.eats.len().saturating_mul(EDGE_WORK);
         states.work = states.work.saturating_sub(work);
@@ -451,14 +458,14 @@ impl<'a> Maker<'a> {
     fn add_row(&self, states: &mut States, cells: &mut Vec<[u8; 256]>) -> Result<(), AllocError>
         requires maker { IsMaker self.now }
         requires made { AreMade self.now.program.now states.old }
-        requires inside { length cells.old.items < length states.old.lists.items }
-        requires rows { AreRows self.now.sets.now self.now.program.now (lists_of states.old) cells.old.items }
+        requires inside { length cells.old.items < length states.old.lists }
+        requires rows { AreRows self.now.sets.now self.now.program.now states.old.lists cells.old.items }
         ensures made { OnOk result (AreMade self.now.program.now states.new) }
-        ensures later { OnOk result (Later (lists_of states.old) (lists_of states.new)) }
-        ensures inside { OnOk result (length cells.new.items ≤ length states.new.lists.items) }
+        ensures later { OnOk result (Later states.old.lists states.new.lists) }
+        ensures inside { OnOk result (length cells.new.items ≤ length states.new.lists) }
         ensures len { OnOk result (length cells.new.items ≡ length cells.old.items + 1) }
         ensures rows { OnOk result
-            (AreRows self.now.sets.now self.now.program.now (lists_of states.new) cells.new.items) }
+            (AreRows self.now.sets.now self.now.program.now states.new.lists cells.new.items) }
     {
         let row = self.row(cells.len(), states)?;
         cells.push(row)?;
@@ -470,15 +477,15 @@ impl<'a> Maker<'a> {
     fn add_rows(&self, states: &mut States, cells: &mut Vec<[u8; 256]>) -> Result<(), AllocError>
         requires maker { IsMaker self.now }
         requires made { AreMade self.now.program.now states.old }
-        requires inside { length cells.old.items ≤ length states.old.lists.items }
+        requires inside { length cells.old.items ≤ length states.old.lists }
         requires few { length cells.old.items ≤ UNKNOWN }
-        requires rows { AreRows self.now.sets.now self.now.program.now (lists_of states.old) cells.old.items }
+        requires rows { AreRows self.now.sets.now self.now.program.now states.old.lists cells.old.items }
         ensures made { OnOk result (AreMade self.now.program.now states.new) }
-        ensures later { OnOk result (Later (lists_of states.old) (lists_of states.new)) }
-        ensures inside { OnOk result (length cells.new.items ≤ length states.new.lists.items) }
+        ensures later { OnOk result (Later states.old.lists states.new.lists) }
+        ensures inside { OnOk result (length cells.new.items ≤ length states.new.lists) }
         ensures few { OnOk result (length cells.new.items ≤ UNKNOWN) }
         ensures rows { OnOk result
-            (AreRows self.now.sets.now self.now.program.now (lists_of states.new) cells.new.items) }
+            (AreRows self.now.sets.now self.now.program.now states.new.lists cells.new.items) }
     {
         while cells.len() < states.lists.len()
             && cells.len() < UNKNOWN as usize
@@ -494,12 +501,18 @@ impl<'a> Maker<'a> {
         requires sound { IsSound self.now.program.now }
         requires made { AreMade self.now.program.now states.old }
         ensures made { OnOk result (AreMade self.now.program.now states.new) }
-        ensures later { OnOk result (Later (lists_of states.old) (lists_of states.new)) }
-        ensures first { IfOk result (λ n. IsFirst self.now.program.now first step (lists_of states.new) n) }
+        ensures later { OnOk result (Later states.old.lists states.new.lists) }
+        ensures first { IfOk result (λ n. IsFirst self.now.program.now first step states.new.lists n) }
     {
         let ends = TextEnds { first, last: false };
-        let steps = led_in(self.alloc, self.program, ends, &[step], &mut states.room)?;
-        let at = number(&mut states.lists, steps)?;
+        find_led(
+            self.program,
+            ends,
+            &[step],
+            &mut states.room,
+            &mut states.steps,
+        )?;
+        let at = number(&mut states.lists, &states.steps)?;
         Ok(at)
     }
 
@@ -508,8 +521,8 @@ impl<'a> Maker<'a> {
         requires sound { IsSound self.now.program.now }
         requires made { AreMade self.now.program.now states.old }
         ensures made { OnOk result (AreMade self.now.program.now states.new) }
-        ensures later { OnOk result (Later (lists_of states.old) (lists_of states.new)) }
-        ensures begin { IfOk result (λ r. IsBegin self.now.program.now step (lists_of states.new) r) }
+        ensures later { OnOk result (Later states.old.lists states.new.lists) }
+        ensures begin { IfOk result (λ r. IsBegin self.now.program.now step states.new.lists r) }
     {
         let first = self.first_state(true, step, states)?;
         let later = self.first_state(false, step, states)?;
@@ -527,16 +540,16 @@ impl<'a> Maker<'a> {
     ) -> Result<Begin, AllocError>
         requires maker { IsMaker self.now }
         requires made { AreMade self.now.program.now states.old }
-        requires inside { length cells.old.items ≤ length states.old.lists.items }
+        requires inside { length cells.old.items ≤ length states.old.lists }
         requires few { length cells.old.items ≤ UNKNOWN }
-        requires rows { AreRows self.now.sets.now self.now.program.now (lists_of states.old) cells.old.items }
+        requires rows { AreRows self.now.sets.now self.now.program.now states.old.lists cells.old.items }
         ensures made { OnOk result (AreMade self.now.program.now states.new) }
-        ensures later { OnOk result (Later (lists_of states.old) (lists_of states.new)) }
-        ensures inside { OnOk result (length cells.new.items ≤ length states.new.lists.items) }
+        ensures later { OnOk result (Later states.old.lists states.new.lists) }
+        ensures inside { OnOk result (length cells.new.items ≤ length states.new.lists) }
         ensures few { OnOk result (length cells.new.items ≤ UNKNOWN) }
         ensures rows { OnOk result
-            (AreRows self.now.sets.now self.now.program.now (lists_of states.new) cells.new.items) }
-        ensures begin { IfOk result (λ r. IsBegin self.now.program.now step (lists_of states.new) r) }
+            (AreRows self.now.sets.now self.now.program.now states.new.lists cells.new.items) }
+        ensures begin { IfOk result (λ r. IsBegin self.now.program.now step states.new.lists r) }
     {
         if !is_wanted {
             return Ok(NOWHERE);
@@ -561,14 +574,14 @@ pub fn noted(accept: bool, place: usize, best: Option<usize>) -> Option<usize>
 }
 
 /// In which of the first states a match ends.
-fn accepting(alloc: Global, lists: &[Vec<usize>], count: usize) -> Result<Vec<bool>, AllocError>
+fn accepting(alloc: Global, lists: &StepLists, count: usize) -> Result<Vec<bool>, AllocError>
     requires { count ≤ length lists.now }
     ensures { IfOk result
-        (λ flags. AreFlags (λ q. Contains (steps_of (map (λ v. v.items) lists.now) q) 0) count flags.items) }
+        (λ flags. AreFlags (λ q. Contains (steps_of lists.now q) 0) count flags.items) }
 {
     let mut flags = Vec::with_capacity(alloc, count)?;
     for at in 0..count {
-        flags.push(has_done(lists[at].as_slice()))?;
+        flags.push(has_done(lists.list(at)))?;
     }
     Ok(flags)
 }
@@ -659,22 +672,21 @@ fn state_ends(program: &[Instruction], list: &[usize], room: &mut Room) -> Resul
 fn ending(
     alloc: Global,
     program: &[Instruction],
-    lists: &[Vec<usize>],
+    lists: &StepLists,
     count: usize,
     room: &mut Room,
 ) -> Result<Vec<bool>, AllocError>
     requires sound { IsSound program.now }
     requires some { 0 < length program.now }
     requires inside { count ≤ length lists.now }
-    requires closed { AreClosed program.now (map (λ v. v.items) lists.now) }
+    requires closed { AreClosed program.now lists.now }
     requires room { IsRoom program.now room.old }
     ensures { IfOk result
-        (λ flags. AreFlags (λ q. EndsAtLast program.now (steps_of (map (λ v. v.items) lists.now) q)) count
-        flags.items) }
+        (λ flags. AreFlags (λ q. EndsAtLast program.now (steps_of lists.now q)) count flags.items) }
 {
     let mut flags = Vec::with_capacity(alloc, count)?;
     for at in 0..count {
-        let flag = state_ends(program, lists[at].as_slice(), room)?;
+        let flag = state_ends(program, lists.list(at), room)?;
         flags.push(flag)?;
     }
     Ok(flags)
@@ -838,14 +850,14 @@ fn likely_count(program: &[Instruction]) -> usize {
 
 /// The states of a table before any is met: the one that has no step. A byte that leads nowhere leads to it.
 fn no_states(alloc: Global, program: &[Instruction]) -> Result<States, AllocError>
-    ensures dead { IfOk result (λ states. IsDead (lists_of states)) }
+    ensures dead { IfOk result (λ states. IsDead states.lists) }
     ensures made { IfOk result (λ states. AreMade program.now states) }
 {
     let count = likely_count(program);
-    let mut lists = Vec::with_capacity(alloc, count)?;
-    lists.push(Vec::new(alloc))?;
-    let mut kernels = Vec::with_capacity(alloc, count)?;
-    kernels.push(Vec::new(alloc))?;
+    let mut lists = StepLists::with_capacity(alloc, count)?;
+    lists.push(&[])?;
+    let mut kernels = StepLists::with_capacity(alloc, count)?;
+    kernels.push(&[])?;
     let mut numbers = Vec::with_capacity(alloc, count)?;
     numbers.push(DEAD)?;
     let slots = vec![in alloc; 0u16; SLOTS]?;
@@ -857,6 +869,7 @@ fn no_states(alloc: Global, program: &[Instruction]) -> Result<States, AllocErro
         slots,
         eats: Vec::new(alloc),
         found: Vec::new(alloc),
+        steps: Vec::new(alloc),
         room,
         work: MAX_WORK,
     })
@@ -897,7 +910,6 @@ fn full_table(
 {
     let alike = alike(&edges(sets, program));
     let maker = Maker {
-        alloc,
         sets,
         program,
         alike: &alike,

@@ -1,5 +1,4 @@
 use Rattle.std.proofs.Common.{◌≡◌, length, arith}
-use Rattle.awk_ere.specs.Making.{lists_of}
 use Rattle.awk_ere.proofs.Gathering.{is_table, dead_later, later_then, begin_later}
 use Rattle.awk_ere.proofs.states.full_table.Goals as goal
 
@@ -9,17 +8,14 @@ returns c =
     let m : c.len-2.result ≡ c.len.result = omega (arith, c.len.ensures, c.len-2.ensures) in
     let scan = c.in_ok-scan.ensures in
     record {
-      lists = lists_of c.begin-2.new.states;
+      lists = c.begin-2.new.states.lists;
       table = is_table _ _ _ _ _ _ _ n scan.few
           (dead_later _ _ (later_then _ _ _ c.in_ok-entry.ensures.later scan.later) c.in_ok-states.ensures.dead)
           scan.rows
-          (rw c.deref.ensures.value at c.in_ok-accepts.ensures)
-          (rw (m, c.deref-2.ensures.value) at c.in_ok-ends.ensures);
+          (c.in_ok-accepts.ensures)
+          (rw m at c.in_ok-ends.ensures);
       entries = begin_later _ _ _ _ _ scan.later c.in_ok-entry.ensures.begin;
       scans = scan.begin;
-      heads = rw (c.deref-3.ensures.value, c.deref-4.ensures.value) at c.heads_of-heads.ensures.heads;
+      heads = rw (c.deref.ensures.value, c.deref-2.ensures.value) at c.heads_of-heads.ensures.heads;
       spread = c.heads_of-heads.ensures.spread;
     }
-
-pub ending-requires-clause-closed : goal.ending-requires-clause-closed
-ending-requires-clause-closed c = rw c.deref-2.ensures.value c.in_ok-scan.ensures.made.closed

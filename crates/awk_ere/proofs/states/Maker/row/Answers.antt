@@ -1,7 +1,7 @@
-use Rattle.std.proofs.Common.{◌≡◌, refl, sym, ◌∙◌, subst, arith}
-use Rattle.awk_ere.specs.Making.{lists_of, AreEating}
-use Rattle.awk_ere.specs.Table.{steps_of, IsKnown}
-use Rattle.awk_ere.proofs.Gathering.{steps_is, later_self, later_then}
+use Rattle.std.proofs.Common.{refl, ◌∙◌, subst, arith}
+use Rattle.awk_ere.specs.Making.{AreEating}
+use Rattle.awk_ere.specs.Table.{IsKnown}
+use Rattle.awk_ere.proofs.Gathering.{later_self, later_then}
 use Rattle.awk_ere.proofs.Making.{known_eating, row_begins, row_more, row_same}
 use Rattle.awk_ere.proofs.states.Maker.row.Goals.{then-edges-byte+in_ok-state, else-edges-byte}
 use Rattle.awk_ere.proofs.states.Maker.row.Goals as goal
@@ -30,7 +30,7 @@ loop-byte-preserved c =
         row = row_more _ _ _ maker.are _ maker.runs _ _ small _ _ _ _ _ w.in_ok-state.ensures.later
             w.fill_from.ensures.kept w.fill_from.ensures.rest
             (subst (λ x. IsKnown c.args.self.now.sets.now c.args.self.now.program.now c.loop-byte.byte x
-            (lists_of w.cell.new.states) w.in_ok-state.state) had.eats w.in_ok-state.ensures.known) had.row;
+            w.cell.new.states.lists w.in_ok-state.state) had.eats w.in_ok-state.ensures.known) had.row;
       })
       | else-edges-byte w ↦ rw (w.states-is, w.row-is) (record {
         made = had.made;
@@ -43,11 +43,6 @@ loop-byte-preserved c =
     ]
 
 pub returns-clause-known : goal.returns-clause-known
-returns-clause-known c =
-    let same : c.as_slice.result.now ≡ steps_of (lists_of c.args.states.now) c.args.at =
-    c.as_slice.ensures.value
-    ∙ sym (steps_is (λ v. v.items) c.args.states.now.lists.items c.args.at c.index.result.now c.requires.inside
-    c.index.ensures) in
-    λ b lt. known_eating _ _ _ _ _ _ _ (subst (λ x. AreEating c.args.self.now.program.now x c.find_eating.new.found.items)
-    same c.in_ok-find_eating.ensures)
-    (c.loop-byte.invariant.row.known b (omega (arith, c.loop-byte-test.false, lt)) lt)
+returns-clause-known c = λ b lt. known_eating _ _ _ _ _ _ _
+    (subst (λ x. AreEating c.args.self.now.program.now x c.find_eating.new.found.items) c.list.ensures
+    c.in_ok-find_eating.ensures) (c.loop-byte.invariant.row.known b (omega (arith, c.loop-byte-test.false, lt)) lt)

@@ -2,10 +2,10 @@ use Rattle.std.proofs.Common.{◌≡◌, ◌<◌, arith}
 use Rattle.awk_ere.specs.Search.{mark}
 use Rattle.awk_ere.specs.declared.search.TheConstants.{NONE}
 use Rattle.awk_ere.proofs.Gathering.{gather_begins, gather_more, marks_gathered, marked_inside}
-use Rattle.awk_ere.proofs.states.marked.Goals as goal
+use Rattle.awk_ere.proofs.states.find_marked.Goals as goal
 
 pub loop-at-init : goal.loop-at-init
-loop-at-init c = rw c.in_ok-list.ensures.items (gather_begins _)
+loop-at-init c = rw (c.in_ok-reserve.ensures.items, c.clear.ensures.items) (gather_begins _)
 
 pub loop-at-preserved : goal.loop-at-preserved
 loop-at-preserved c = gather_more (λ i p. (p ≡ i) × (mark c.args.starts.now p < NONE)) _ _ _ c.in_ok-push_marked.ensures
