@@ -188,11 +188,6 @@ none_led program S none = record {
   nothing : (x : ℕ) → Contains [] x → ⊥
   nothing x member = omega (arith, member.1)
 
-pub cell_known : (sets : List (List Bool)) (program : List Instruction) (b : ℕ) (S U : List ℕ) (lists : List (List ℕ))
-    (n : ℕ) → IsCell sets program b S U → IsNumber U lists n → IsKnown sets program b S lists n
-cell_known sets program b S U lists n is h = λ small. let y = h small in
-    (y.0, subst (λ x. IsCell sets program b S x) (sym y.1) is)
-
 -- numbers
 pub later_self : (lists : List (List ℕ)) → Later lists lists
 later_self lists = ([], no_more lists) where
@@ -204,7 +199,7 @@ pub later_then : (a b c : List (List ℕ)) → Later a b → Later b c → Later
 later_then a b c (xs, is) (ys, are) = (xs ++ ys, are ∙ ap (λ z. z ++ ys) is ∙ append_assoc a xs ys)
 
 module _ {V : Type 0} (f : V → List ℕ) where
-  map_push : (xs : List V) (x : V) → map f (xs ++ x ∷ []) ≡ map f xs ++ f x ∷ []
+  pub map_push : (xs : List V) (x : V) → map f (xs ++ x ∷ []) ≡ map f xs ++ f x ∷ []
   map_push [] x = refl
   map_push (y ∷ ys) x = ap (λ z. f y ∷ z) (map_push ys x)
 
@@ -271,46 +266,17 @@ module _ (sets : List (List Bool)) (program : List Instruction) where
         (sym (later_steps lists all n y.0 later)) y.1,
   )
 
-  -- the row so far, and the state after the byte before
-  pub record IsRow (S : List ℕ) (lists : List (List ℕ)) (before k : ℕ) (row : List ℕ) : Type 0 where
-    pub known : (b : ℕ) → b < k → IsKnown sets program b S lists (get_or row b 0)
-    pub last : (b : ℕ) → k ≡ b + 1 → IsKnown sets program b S lists before
-
-  pub row_begins : (S : List ℕ) (lists : List (List ℕ)) (before : ℕ) (row : List ℕ) → IsRow S lists before 0 row
-  row_begins S lists before row = record { known = λ b lt. absurd (omega arith); last = λ b is. absurd (omega arith) }
-
-  pub row_more : (S : List ℕ) (lists all : List (List ℕ)) (before new k : ℕ) (row : List ℕ) → k < length row
-      → Later lists all → IsKnown sets program k S all new → IsRow S lists before k row
-      → IsRow S all new (k + 1) (set row k new)
-  row_more S lists all before new k row lt later is h = record {
-    known = λ b less. elim (cases_eq b k) [
-      | inl same ↦ subst (λ x. IsKnown sets program x S all (get_or (set row k new) x 0)) (sym same)
-          (subst (λ x. IsKnown sets program k S all x) (sym (get_or-set_same row k new 0 lt)) is)
-      | inr ne ↦ subst (λ x. IsKnown sets program b S all x) (sym (get_or-set_other row k b new 0 ne))
-          (known_later b (get_or row b 0) S lists all later (h.known b (omega arith)))
-    ];
-    last = λ b same. (let e : k ≡ b = omega arith in subst (λ x. IsKnown sets program x S all new) e is);
-  }
-
-  cell_same : (b c : ℕ) (S T : List ℕ) → ((q r : ℕ) → Takes sets program c q r ↔ Takes sets program b q r)
-      → IsCell sets program b S T → IsCell sets program c S T
-  cell_same b c S T same h = record {
-    sound = λ p member. let y = h.sound p member in (y.0, y.1, y.2, (same y.0 y.1).1 y.3, y.4);
-    complete = λ x t p member takes leads. h.complete x t p member ((same x t).0 takes) leads;
-  }
-
-  pub row_same : (edges : List Bool) (S : List ℕ) (lists : List (List ℕ)) (before k : ℕ) (row : List ℕ)
-      → AreEdges sets program edges → k < 256 → get_or edges k false ≡ false → IsRow S lists before k row
-      → IsKnown sets program k S lists before
-  row_same edges S lists before zero row are lt off h = absurd (let e = are.0 in cc)
-  row_same edges S lists before (suc k) row are lt off h = λ small.
-      let y = h.last k (omega arith) small in
-      let e : suc k ≡ k + 1 = omega arith in
-      let f : get_or edges (k + 1) false ≡ false = subst (λ x. get_or edges x false ≡ false) e off in (
-        y.0,
-        subst (λ x. IsCell sets program x S (steps_of lists before)) (sym e)
-            (cell_same k (k + 1) S (steps_of lists before) (λ q r. are.1 k q r (omega arith) f) y.1),
-      )
+  -- over another byte the same, where no step of S tells it from this one
+  pub known_same : (b c n : ℕ) (S : List ℕ) (lists : List (List ℕ))
+      → ((q r : ℕ) → Contains S q → Takes sets program c q r ↔ Takes sets program b q r)
+      → IsKnown sets program b S lists n → IsKnown sets program c S lists n
+  known_same b c n S lists same h = λ small. let y = h small in (
+    y.0,
+    record {
+      sound = λ p member. let z = y.1.sound p member in (z.0, z.1, z.2, (same z.0 z.1 z.2).1 z.3, z.4);
+      complete = λ x t p member takes leads. y.1.complete x t p member ((same x t member).0 takes) leads;
+    },
+  )
 
   -- rows
   pub cell_front : (cells : List (List ℕ)) (row : List ℕ) (q b : ℕ) → q < length cells → cell (cells ++ row ∷ []) q b
@@ -376,7 +342,7 @@ flags_push P k flags new b is one h = subst (λ x. AreFlags P (k + 1) x) (sym is
   flag_last (x ∷ xs) b = flag_last xs b
 
 -- what leads to the end is in the program
-leads_inside : (program : List Instruction) (first last : Bool) (x : ℕ) → 0 < length program
+pub leads_inside : (program : List Instruction) (first last : Bool) (x : ℕ) → 0 < length program
     → LeadsTo program first last x 0 → x < length program
 leads_inside program first last x some (zero, is) = omega arith
 leads_inside program first last x some (suc n, (p, skip, path)) = by_skip skip where
@@ -385,13 +351,6 @@ leads_inside program first last x some (suc n, (p, skip, path)) = by_skip skip w
   by_skip (right other h) = slice_get_within program _ _ h
   by_skip (at_start h f) = slice_get_within program _ _ h
   by_skip (at_end h f) = slice_get_within program _ _ h
-
-pub ends_by : (program : List Instruction) (list steps : List ℕ) (b : Bool) → 0 < length program
-    → IsLed program false true list steps → (b ≡ true) ↔ Contains steps 0 → (b ≡ true) ↔ EndsAtLast program list
-ends_by program list steps b some led is = (
-  (λ t. led.sound 0 (is.0 t)),
-  (λ h. is.1 (led.complete h.0 0 (leads_inside program false true h.0 some h.2) h.1 h.2)),
-)
 
 pub first_known : (program : List Instruction) (first : Bool) (entry : ℕ) (U : List ℕ) (lists : List (List ℕ)) (n : ℕ)
     → IsLed program first false (entry ∷ []) U → IsNumber U lists n → IsFirst program first entry lists n

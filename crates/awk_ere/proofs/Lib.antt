@@ -18,6 +18,8 @@ pub mod Alone
 pub mod Tables
 pub mod Beginnings
 pub mod Gathering
+pub mod Cuts
+pub mod Making
 pub mod Seeking
 pub mod Ending
 pub mod Meeting

@@ -85,7 +85,7 @@ targets_few first last Done = omega arith
 targets_few first last Hole = omega arith
 
 -- a path and one step more
-skip_more : (program : List Instruction) (first last : Bool) (n q p r : ℕ) → SkipPath program first last n q p
+pub skip_more : (program : List Instruction) (first last : Bool) (n q p r : ℕ) → SkipPath program first last n q p
     → Skips program first last p r → SkipPath program first last (suc n) q r
 skip_more program first last zero q p r is skip = (r, subst (λ x. Skips program first last x r) (sym is) skip, refl)
 skip_more program first last (suc n) q p r (x, one, path) skip =

@@ -14,6 +14,8 @@ pub mod Program
 pub mod Search
 pub mod Runs
 pub mod Table
+pub mod Cuts
+pub mod Making
 pub mod Matcher
 pub mod Lazy
 pub mod Literal

@@ -132,8 +132,8 @@ fn second_range(cells: &[[u8; 256]], accepts: &[bool], row: &[u8; 256]) -> Range
 
 /// Whether each byte of the range leads on.
 fn is_exact(row: &[u8; 256], range: Range) -> bool {
-    for byte in 0..256usize {
-        if row[byte] == DEAD && range.0 as usize <= byte && byte <= range.1 as usize {
+    for byte in range.0 as usize..range.1 as usize + 1 {
+        if row[byte] == DEAD {
             return false;
         }
     }

@@ -14,6 +14,7 @@ pub mod laws;
 mod lazy;
 mod literal;
 mod node;
+mod pieces;
 pub mod plain;
 mod program;
 mod read;

@@ -62,6 +62,11 @@ impl Starts {
         self.starts.len()
     }
 
+    /// How many steps are marked with one.
+    pub fn count(&self) -> usize {
+        self.active.len()
+    }
+
     /// The start that the step is marked with, or `NONE`.
     pub fn least(&self, at: usize) -> usize
         requires { at < length self.now }
@@ -90,7 +95,7 @@ impl Starts {
     }
 
     /// Takes each mark away.
-    fn clear(&mut self)
+    pub fn clear(&mut self)
         ensures len { length self.new ≡ length self.old }
         ensures blank { IsBlank self.new }
     {

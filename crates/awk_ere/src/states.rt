@@ -1,17 +1,22 @@
 // The states of a table: sets of steps, with their cells.
-ghost use Rattle.std.specs.Prelude.{◌≡◌, ◌↔◌, ◌+◌, ◌-◌, ◌<◌, ◌≤◌, ℕ, [], true, false, length, map, slice_index};
-ghost use Rattle.std.specs.Prelude.{Contains, IfOk, OnOk, IfSome, if◌then◌else◌};
+ghost use Rattle.std.specs.Prelude.{◌≡◌, ◌≢◌, ◌↔◌, ◌⊎◌, ◌+◌, ◌++◌, ◌<◌, ◌≤◌, ◌∷◌, [], ℕ, true, false, length};
+ghost use Rattle.std.specs.Prelude.{Some, slice_get, slice_index, Contains, IfOk, OnOk, IfSome, if◌then◌else◌};
 ghost use Rattle.awk_ere.specs.Lexing.{has};
-ghost use Rattle.awk_ere.specs.Program.{IsSound};
-ghost use Rattle.awk_ere.specs.Search.{mark, target_of, IsClosed, Takes};
+ghost use Rattle.awk_ere.specs.Program.{IsSound, holds};
+ghost use Rattle.awk_ere.specs.Search.{mark, target_of, IsBlank, IsClosed, Takes};
 ghost use Rattle.awk_ere.specs.Table.{steps_of, Gains, LeadsMore, IsLed, AreLed, AreMarked, AreTargets, Later};
 ghost use Rattle.awk_ere.specs.Table.{IsNumber, IsCell, IsKnown, AreEdges, AreRows, AreFlags, EndsAtLast, IsFirst};
-ghost use Rattle.awk_ere.specs.Table.{IsBegin, IsDead, IsBuilt};
+ghost use Rattle.awk_ere.specs.Table.{IsBegin, IsDead, IsBuilt, AreHeads, AreSpread};
+ghost use Rattle.awk_ere.specs.Making.{is_eat, AreEating, AreListEdges, AreMade, AreRuns, IsEat, IsMadeBy};
+ghost use Rattle.awk_ere.specs.Making.{IsMaker, IsRoom, AreClosed, IsClosedList, NoneWait, is_at_end};
+ghost use Rattle.awk_ere.specs.declared.program.Instruction.{Instruction};
 
 use crate::bracket::Set;
 use crate::heads::{Heads, any_heads, make_heads};
+use crate::pieces::StepLists;
 use crate::program::Instruction;
 use crate::search::{NONE, Starts, TextEnds, reach, target};
+use crate::token::Class;
 use std::alloc::{AllocError, Global};
 
 /// The number of no state: the table does not say where the search goes on.
@@ -26,16 +31,64 @@ const MAX_STEPS: usize = 2000;
 /// How much work may be done for a table: about how many steps are looked at.
 const MAX_WORK: usize = 1_000_000;
 
+/// How many hashes kernels have.
+const SLOTS: usize = 1024;
+
+/// An odd number without a pattern in its bits, by which a hash is multiplied.
+const MIXER: usize = 0x9E37_79B9_7F4A_7C15;
+
+/// The edges of a step cost as much as looking at so many steps, since it may take a set of bytes.
+const EDGE_WORK: usize = 8;
+
 /// A place with bytes before it and behind it.
 const INSIDE: TextEnds = TextEnds {
     first: false,
     last: false,
 };
 
+/// A text's end with bytes before it.
+const AT_LAST: TextEnds = TextEnds {
+    first: false,
+    last: true,
+};
+
+/// Marks of a program's steps, and a stack, which are used again for each list of steps. In between no step is marked.
+#[derive(Drop)]
+pub struct Room {
+    starts: Starts,
+    stack: Vec<usize>,
+}
+
+impl Room {
+    /// For programs of so many steps.
+    pub fn new(alloc: Global, len: usize) -> Result<Room, AllocError>
+        ensures len { IfOk result (λ room. length room.starts ≡ len) }
+        ensures blank { IfOk result (λ room. IsBlank room.starts) }
+    {
+        let starts = Starts::new(alloc, len)?;
+        Ok(Room {
+            starts,
+            stack: Vec::new(alloc),
+        })
+    }
+}
+
 /// The states of a table so far, each by its steps, and how much work may still be done for more of them.
 #[derive(Drop)]
 struct States {
-    lists: Vec<Vec<usize>>,
+    lists: StepLists,
+    /// The lists of steps that bytes lead to, before what those lead to without reading is added, and the number of the
+    /// state that each of them makes: most cells have one that another cell had.
+    kernels: StepLists,
+    numbers: Vec<u8>,
+    /// For each hash the place of the last kernel that has it.
+    slots: Vec<u16>,
+    /// The steps that take bytes of the state whose row is being made, the kernel of the cell that is, and the steps of
+    /// a state that may be new.
+    eats: Vec<usize>,
+    found: Vec<usize>,
+    steps: Vec<usize>,
+    room: Room,
     work: usize,
 }
 
@@ -61,21 +114,21 @@ fn push_target(
     }
 }
 
-/// The steps that those of the list go to over the byte.
-fn targets(
-    alloc: Global,
+/// Finds the steps that those of the list go to over the byte.
+fn find_targets(
     sets: &[Set],
     program: &[Instruction],
     list: &[usize],
     byte: u8,
-) -> Result<Vec<usize>, AllocError>
-    ensures { IfOk result (λ found. AreTargets sets.now program.now byte list.now found.items) }
+    found: &mut Vec<usize>,
+) -> Result<(), AllocError>
+    ensures { OnOk result (AreTargets sets.now program.now byte list.now found.new.items) }
 {
-    let mut found = Vec::new(alloc);
+    found.clear();
     for at in list {
-        push_target(sets, program, *at, byte, &mut found)?;
+        push_target(sets, program, *at, byte, found)?;
     }
-    Ok(found)
+    Ok(())
 }
 
 /// Marks the steps that this one leads to without reading, where the program has it.
@@ -100,22 +153,22 @@ fn lead_from(
     }
 }
 
-/// The marks of the steps that those of the list lead to without reading.
+/// Marks the steps that those of the list lead to without reading.
 fn lead(
-    alloc: Global,
     program: &[Instruction],
     ends: TextEnds,
     list: &[usize],
-) -> Result<Starts, AllocError>
-    requires { IsSound program.now }
-    ensures { IfOk result (λ starts. AreLed program.now ends.first ends.last list.now starts) }
+    room: &mut Room,
+) -> Result<(), AllocError>
+    requires sound { IsSound program.now }
+    requires room { IsRoom program.now room.old }
+    ensures len { OnOk result (length room.new.starts ≡ length program.now) }
+    ensures led { OnOk result (AreLed program.now ends.first ends.last list.now room.new.starts) }
 {
-    let mut starts = Starts::new(alloc, program.len())?;
-    let mut stack = Vec::new(alloc);
     for at in list {
-        lead_from(program, ends, *at, &mut starts, &mut stack)?;
+        lead_from(program, ends, *at, &mut room.starts, &mut room.stack)?;
     }
-    Ok(starts)
+    Ok(())
 }
 
 /// Adds the step where it is marked.
@@ -131,18 +184,38 @@ fn push_marked(starts: &Starts, at: usize, list: &mut Vec<usize>) -> Result<(), 
     }
 }
 
-/// The marked steps, in order.
-fn marked(alloc: Global, starts: &Starts) -> Result<Vec<usize>, AllocError>
-    ensures { IfOk result (λ list. AreMarked starts.now list.items) }
+/// Finds the marked steps, in order.
+fn find_marked(starts: &Starts, list: &mut Vec<usize>) -> Result<(), AllocError>
+    ensures { OnOk result (AreMarked starts.now list.new.items) }
 {
-    let mut list = Vec::new(alloc);
+    list.clear();
+    list.reserve(starts.count())?;
     for at in 0..starts.len() {
-        push_marked(starts, at, &mut list)?;
+        push_marked(starts, at, list)?;
     }
-    Ok(list)
+    Ok(())
 }
 
-/// The steps that those of the list lead to without reading.
+/// Finds the steps that those of the list lead to without reading.
+fn find_led(
+    program: &[Instruction],
+    ends: TextEnds,
+    list: &[usize],
+    room: &mut Room,
+    led: &mut Vec<usize>,
+) -> Result<(), AllocError>
+    requires sound { IsSound program.now }
+    requires room { IsRoom program.now room.old }
+    ensures led { OnOk result (IsLed program.now ends.first ends.last list.now led.new.items) }
+    ensures room { OnOk result (IsRoom program.now room.new) }
+{
+    lead(program, ends, list, room)?;
+    find_marked(&room.starts, led)?;
+    room.starts.clear();
+    Ok(())
+}
+
+/// The same, with room of its own.
 pub fn led(
     alloc: Global,
     program: &[Instruction],
@@ -152,17 +225,25 @@ pub fn led(
     requires { IsSound program.now }
     ensures { IfOk result (λ led. IsLed program.now ends.first ends.last list.now led.items) }
 {
-    let starts = lead(alloc, program, ends, list)?;
-    let found = marked(alloc, &starts)?;
+    let mut room = Room::new(alloc, program.len())?;
+    let mut found = Vec::new(alloc);
+    find_led(program, ends, list, &mut room, &mut found)?;
     Ok(found)
 }
 
-/// The number of the list among the states.
-fn place_of(lists: &[Vec<usize>], list: &[usize]) -> Option<usize>
-    ensures { IfSome result (λ at. (at < length lists.now) × (steps_of (map (λ v. v.items) lists.now) at ≡ list.now)) }
+/// Whether the list stands at the place.
+fn is_at(lists: &StepLists, at: usize, list: &[usize]) -> bool
+    ensures { result ≡ true → (at < length lists.now) × (steps_of lists.now at ≡ list.now) }
+{
+    at < lists.len() && lists.list(at) == list
+}
+
+/// Where the list stands.
+fn place_of(lists: &StepLists, list: &[usize]) -> Option<usize>
+    ensures { IfSome result (λ at. (at < length lists.now) × (steps_of lists.now at ≡ list.now)) }
 {
     for at in 0..lists.len() {
-        if lists[at].as_slice() == list {
+        if is_at(lists, at, list) {
             return Some(at);
         }
     }
@@ -170,11 +251,11 @@ fn place_of(lists: &[Vec<usize>], list: &[usize]) -> Option<usize>
 }
 
 /// The number of the state with these steps, which is added where it is new and there is room.
-fn number(lists: &mut Vec<Vec<usize>>, list: Vec<usize>) -> Result<u8, AllocError>
-    ensures later { OnOk result (Later (map (λ v. v.items) lists.old.items) (map (λ v. v.items) lists.new.items)) }
-    ensures number { IfOk result (λ n. IsNumber list.items (map (λ v. v.items) lists.new.items) n) }
+fn number(lists: &mut StepLists, list: &[usize]) -> Result<u8, AllocError>
+    ensures grown { OnOk result ((lists.new ≡ lists.old) ⊎ (lists.new ≡ lists.old ++ list.now ∷ [])) }
+    ensures number { IfOk result (λ n. IsNumber list.now lists.new n) }
 {
-    match place_of(lists, &list) {
+    match place_of(lists, list) {
         Some(at) => {
             if at < UNKNOWN as usize {
                 Ok(at as u8)
@@ -205,7 +286,8 @@ pub fn steps_after(
     requires { IsSound program.now }
     ensures { IfOk result (λ steps. IsCell sets.now program.now byte list.now steps.items) }
 {
-    let targets = targets(alloc, sets, program, list, byte)?;
+    let mut targets = Vec::new(alloc);
+    find_targets(sets, program, list, byte, &mut targets)?;
     if targets.is_empty() {
         return Ok(targets);
     }
@@ -213,128 +295,269 @@ pub fn steps_after(
     Ok(steps)
 }
 
-/// How much work it is to find the state after a byte: where there are steps, all of the program is gone through for
-/// them, and they are looked for among all states.
-fn work_of(from: &[usize], program: &[Instruction], to: &[usize], lists: &[Vec<usize>]) -> usize {
-    if to.is_empty() {
-        return from.len();
+/// Whether the step takes a byte.
+fn eats(step: Instruction) -> bool
+    ensures { result ≡ is_eat step }
+{
+    match step {
+        Instruction::Eat(_, _) => true,
+        Instruction::Fork(_, _)
+        | Instruction::AtStart(_)
+        | Instruction::AtEnd(_)
+        | Instruction::Done
+        | Instruction::Hole => false,
     }
-    from.len()
-        .saturating_add(program.len())
-        .saturating_add(lists.len())
 }
 
-/// The state after the byte.
-fn cell(
-    alloc: Global,
-    sets: &[Set],
-    program: &[Instruction],
-    list: &[usize],
-    byte: u8,
-    states: &mut States,
-) -> Result<u8, AllocError>
-    requires { IsSound program.now }
-    ensures later { OnOk result
-        (Later (map (λ v. v.items) states.old.lists.items) (map (λ v. v.items) states.new.lists.items)) }
-    ensures known { IfOk result
-        (λ n. IsKnown sets.now program.now byte list.now (map (λ v. v.items) states.new.lists.items) n) }
+/// Adds the step where it takes a byte.
+fn push_eating(program: &[Instruction], at: usize, found: &mut Vec<usize>) -> Result<(), AllocError>
+    ensures { OnOk result (Gains (λ p. (p ≡ at) × IsEat program.now at) found.old.items found.new.items) }
 {
-    let steps = steps_after(alloc, sets, program, list, byte)?;
-    let work = work_of(list, program, &steps, &states.lists);
-    states.work = states.work.saturating_sub(work);
-    let at = number(&mut states.lists, steps)?;
-    Ok(at)
-}
-
-/// The states after each byte.
-fn row(
-    alloc: Global,
-    sets: &[Set],
-    program: &[Instruction],
-    edges: &[bool; 256],
-    list: &[usize],
-    states: &mut States,
-) -> Result<[u8; 256], AllocError>
-    requires sound { IsSound program.now }
-    requires edges { AreEdges sets.now program.now edges.now }
-    ensures later { OnOk result
-        (Later (map (λ v. v.items) states.old.lists.items) (map (λ v. v.items) states.new.lists.items)) }
-    ensures known { IfOk result
-        (λ row. (b : ℕ) → b < 256 →
-        IsKnown sets.now program.now b list.now (map (λ v. v.items) states.new.lists.items) (slice_index row b)) }
-{
-    let mut row = [UNKNOWN; 256];
-    let mut before = UNKNOWN;
-    for byte in 0..256usize {
-        if edges[byte] {
-            before = cell(alloc, sets, program, list, byte as u8, states)?;
+    match program.get(at) {
+        None => Ok(()),
+        Some(step) => {
+            if eats(*step) {
+                found.push(at)?;
+            }
+            Ok(())
         }
-        row[byte] = before;
     }
-    Ok(row)
 }
 
-/// The steps of a state.
-fn list_at(alloc: Global, lists: &[Vec<usize>], at: usize) -> Result<Vec<usize>, AllocError>
-    requires { at < length lists.now }
-    ensures { IfOk result (λ list. list.items ≡ steps_of (map (λ v. v.items) lists.now) at) }
-{
-    let list = Vec::from_slice(alloc, lists[at].as_slice())?;
-    Ok(list)
-}
-
-/// Adds the row of the first state that has none.
-fn add_row(
-    alloc: Global,
-    sets: &[Set],
+/// Finds the steps of the list that take a byte.
+fn find_eating(
     program: &[Instruction],
-    edges: &[bool; 256],
-    states: &mut States,
-    cells: &mut Vec<[u8; 256]>,
+    list: &[usize],
+    found: &mut Vec<usize>,
 ) -> Result<(), AllocError>
-    requires sound { IsSound program.now }
-    requires edges { AreEdges sets.now program.now edges.now }
-    requires inside { length cells.old.items < length states.old.lists.items }
-    requires rows { AreRows sets.now program.now (map (λ v. v.items) states.old.lists.items) cells.old.items }
-    ensures later { OnOk result
-        (Later (map (λ v. v.items) states.old.lists.items) (map (λ v. v.items) states.new.lists.items)) }
-    ensures inside { OnOk result (length cells.new.items ≤ length states.new.lists.items) }
-    ensures len { OnOk result (length cells.new.items ≡ length cells.old.items + 1) }
-    ensures rows { OnOk result
-        (AreRows sets.now program.now (map (λ v. v.items) states.new.lists.items) cells.new.items) }
+    ensures { OnOk result (AreEating program.now list.now found.new.items) }
 {
-    let at = cells.len();
-    let list = list_at(alloc, &states.lists, at)?;
-    let row = row(alloc, sets, program, edges, &list, states)?;
-    cells.push(row)?;
-    Ok(())
-}
-
-/// Adds the rows of the states that have none, and of those that are met by them, while there is room and work is left.
-fn add_rows(
-    alloc: Global,
-    sets: &[Set],
-    program: &[Instruction],
-    edges: &[bool; 256],
-    states: &mut States,
-    cells: &mut Vec<[u8; 256]>,
-) -> Result<(), AllocError>
-    requires sound { IsSound program.now }
-    requires edges { AreEdges sets.now program.now edges.now }
-    requires inside { length cells.old.items ≤ length states.old.lists.items }
-    requires few { length cells.old.items ≤ UNKNOWN }
-    requires rows { AreRows sets.now program.now (map (λ v. v.items) states.old.lists.items) cells.old.items }
-    ensures later { OnOk result
-        (Later (map (λ v. v.items) states.old.lists.items) (map (λ v. v.items) states.new.lists.items)) }
-    ensures inside { OnOk result (length cells.new.items ≤ length states.new.lists.items) }
-    ensures few { OnOk result (length cells.new.items ≤ UNKNOWN) }
-    ensures rows { OnOk result
-        (AreRows sets.now program.now (map (λ v. v.items) states.new.lists.items) cells.new.items) }
-{
-    while cells.len() < states.lists.len() && cells.len() < UNKNOWN as usize && states.work > 0 {
-        add_row(alloc, sets, program, edges, states, cells)?;
+    found.clear();
+    for at in list {
+        push_eating(program, *at, found)?;
     }
     Ok(())
+}
+
+/// A hash of the kernel.
+fn slot_of(kernel: &[usize]) -> usize
+    ensures { result < SLOTS }
+{
+    let mut hash = 0usize;
+    for at in kernel {
+        hash = hash.wrapping_add(*at).wrapping_add(1).wrapping_mul(MIXER);
+    }
+    (hash >> 32) % SLOTS
+}
+
+/// Fills the row with the state, from the byte on.
+fn fill_from(row: &mut [u8; 256], byte: usize, state: u8)
+    requires { byte < 256 }
+    ensures kept { (b : ℕ) → b < byte → slice_index row.new b ≡ slice_index row.old b }
+    ensures rest { (b : ℕ) → byte ≤ b → b < 256 → slice_index row.new b ≡ state }
+{
+    for at in byte..256usize {
+        row[at] = state;
+    }
+}
+
+/// What the rows of a table are made by: a program, and for each byte the last of those from it on that no step of the
+/// program tells from it.
+#[derive(Clone, Copy)]
+struct Maker<'a> {
+    sets: &'a [Set],
+    program: &'a [Instruction],
+    alike: &'a [u8; 256],
+}
+
+impl<'a> Maker<'a> {
+    /// Makes the state of the kernel that was found, and keeps both.
+    #[inline(never)]
+    fn add_kernel(&self, states: &mut States) -> Result<u8, AllocError>
+        requires sound { IsSound self.now.program.now }
+        requires made { AreMade self.now.program.now states.old }
+        ensures made { OnOk result (AreMade self.now.program.now states.new) }
+        ensures later { OnOk result (Later states.old.lists states.new.lists) }
+        ensures eats { OnOk result (states.new.eats.items ≡ states.old.eats.items) }
+        ensures state { IfOk result
+            (λ n. IsMadeBy self.now.program.now states.new.lists states.old.found.items n) }
+    {
+        let program = self.program;
+        find_led(
+            program,
+            INSIDE,
+            &states.found,
+            &mut states.room,
+            &mut states.steps,
+        )?;
+        let looked = program.len().saturating_add(states.lists.len());
+        states.work = states.work.saturating_sub(looked);
+        let state = number(&mut states.lists, &states.steps)?;
+        states.kernels.push(&states.found)?;
+        states.numbers.push(state)?;
+        Ok(state)
+    }
+
+    /// The state after the byte, from the steps that take bytes. Most cells have a kernel that another one had.
+    fn cell(&self, byte: u8, states: &mut States) -> Result<u8, AllocError>
+        requires sound { IsSound self.now.program.now }
+        requires made { AreMade self.now.program.now states.old }
+        ensures made { OnOk result (AreMade self.now.program.now states.new) }
+        ensures later { OnOk result (Later states.old.lists states.new.lists) }
+        ensures eats { OnOk result (states.new.eats.items ≡ states.old.eats.items) }
+        ensures known { IfOk result (λ n. IsKnown self.now.sets.now self.now.program.now byte states.old.eats.items
+            states.new.lists n) }
+    {
+        find_targets(
+            self.sets,
+            self.program,
+            &states.eats,
+            byte,
+            &mut states.found,
+        )?;
+        states.work = states.work.saturating_sub(states.eats.len());
+        let slot = slot_of(&states.found);
+        let kernel = states.slots[slot] as usize;
+        if is_at(&states.kernels, kernel, &states.found) {
+            return Ok(states.numbers[kernel]);
+        }
+        states.slots[slot] = states.kernels.len().min(u16::MAX as usize) as u16;
+        let state = self.add_kernel(states)?;
+        Ok(state)
+    }
+
+    /// The states after each byte. A cell is made where some step of the state goes on otherwise than over the byte
+    /// before.
+    fn row(&self, at: usize, states: &mut States) -> Result<[u8; 256], AllocError>
+        requires maker { IsMaker self.now }
+        requires made { AreMade self.now.program.now states.old }
+        requires inside { at < length states.old.lists }
+        ensures made { OnOk result (AreMade self.now.program.now states.new) }
+        ensures later { OnOk result (Later states.old.lists states.new.lists) }
+        ensures known { IfOk result
+            (λ row. (b : ℕ) → b < 256 → IsKnown self.now.sets.now self.now.program.now b
+            (steps_of states.old.lists at) states.new.lists (slice_index row b)) }
+    {
+        find_eating(self.program, states.lists.list(at), &mut states.eats)?;
+        let edges = list_edges(self.sets, self.program, &states.eats);
+        let work = states.eats.len().saturating_mul(EDGE_WORK);
+        states.work = states.work.saturating_sub(work);
+        let mut row = [UNKNOWN; 256];
+        let mut byte = 0usize;
+        while byte < 256 {
+            if edges[byte] {
+                let state = self.cell(byte as u8, states)?;
+                fill_from(&mut row, byte, state);
+            }
+            byte = self.alike[byte] as usize + 1;
+        }
+        Ok(row)
+    }
+
+    /// Adds the row of the first state that has none.
+    fn add_row(&self, states: &mut States, cells: &mut Vec<[u8; 256]>) -> Result<(), AllocError>
+        requires maker { IsMaker self.now }
+        requires made { AreMade self.now.program.now states.old }
+        requires inside { length cells.old.items < length states.old.lists }
+        requires rows { AreRows self.now.sets.now self.now.program.now states.old.lists cells.old.items }
+        ensures made { OnOk result (AreMade self.now.program.now states.new) }
+        ensures later { OnOk result (Later states.old.lists states.new.lists) }
+        ensures inside { OnOk result (length cells.new.items ≤ length states.new.lists) }
+        ensures len { OnOk result (length cells.new.items ≡ length cells.old.items + 1) }
+        ensures rows { OnOk result
+            (AreRows self.now.sets.now self.now.program.now states.new.lists cells.new.items) }
+    {
+        let row = self.row(cells.len(), states)?;
+        cells.push(row)?;
+        Ok(())
+    }
+
+    /// Adds the rows of the states that have none, and of those that are met by them, while there is room and work is
+    /// left.
+    fn add_rows(&self, states: &mut States, cells: &mut Vec<[u8; 256]>) -> Result<(), AllocError>
+        requires maker { IsMaker self.now }
+        requires made { AreMade self.now.program.now states.old }
+        requires inside { length cells.old.items ≤ length states.old.lists }
+        requires few { length cells.old.items ≤ UNKNOWN }
+        requires rows { AreRows self.now.sets.now self.now.program.now states.old.lists cells.old.items }
+        ensures made { OnOk result (AreMade self.now.program.now states.new) }
+        ensures later { OnOk result (Later states.old.lists states.new.lists) }
+        ensures inside { OnOk result (length cells.new.items ≤ length states.new.lists) }
+        ensures few { OnOk result (length cells.new.items ≤ UNKNOWN) }
+        ensures rows { OnOk result
+            (AreRows self.now.sets.now self.now.program.now states.new.lists cells.new.items) }
+    {
+        while cells.len() < states.lists.len()
+            && cells.len() < UNKNOWN as usize
+            && states.work > 0
+        {
+            self.add_row(states, cells)?;
+        }
+        Ok(())
+    }
+
+    /// The state in which a search begins at the step.
+    fn first_state(&self, first: bool, step: usize, states: &mut States) -> Result<u8, AllocError>
+        requires sound { IsSound self.now.program.now }
+        requires made { AreMade self.now.program.now states.old }
+        ensures made { OnOk result (AreMade self.now.program.now states.new) }
+        ensures later { OnOk result (Later states.old.lists states.new.lists) }
+        ensures first { IfOk result (λ n. IsFirst self.now.program.now first step states.new.lists n) }
+    {
+        let ends = TextEnds { first, last: false };
+        find_led(
+            self.program,
+            ends,
+            &[step],
+            &mut states.room,
+            &mut states.steps,
+        )?;
+        let at = number(&mut states.lists, &states.steps)?;
+        Ok(at)
+    }
+
+    /// The states in which a search begins at the step.
+    fn begins(&self, step: usize, states: &mut States) -> Result<Begin, AllocError>
+        requires sound { IsSound self.now.program.now }
+        requires made { AreMade self.now.program.now states.old }
+        ensures made { OnOk result (AreMade self.now.program.now states.new) }
+        ensures later { OnOk result (Later states.old.lists states.new.lists) }
+        ensures begin { IfOk result (λ r. IsBegin self.now.program.now step states.new.lists r) }
+    {
+        let first = self.first_state(true, step, states)?;
+        let later = self.first_state(false, step, states)?;
+        Ok(Begin { first, later })
+    }
+
+    /// The states in which a search begins at the step; they and the states that are met from them get rows, where a
+    /// table of them is wanted.
+    fn begin(
+        &self,
+        is_wanted: bool,
+        step: usize,
+        states: &mut States,
+        cells: &mut Vec<[u8; 256]>,
+    ) -> Result<Begin, AllocError>
+        requires maker { IsMaker self.now }
+        requires made { AreMade self.now.program.now states.old }
+        requires inside { length cells.old.items ≤ length states.old.lists }
+        requires few { length cells.old.items ≤ UNKNOWN }
+        requires rows { AreRows self.now.sets.now self.now.program.now states.old.lists cells.old.items }
+        ensures made { OnOk result (AreMade self.now.program.now states.new) }
+        ensures later { OnOk result (Later states.old.lists states.new.lists) }
+        ensures inside { OnOk result (length cells.new.items ≤ length states.new.lists) }
+        ensures few { OnOk result (length cells.new.items ≤ UNKNOWN) }
+        ensures rows { OnOk result
+            (AreRows self.now.sets.now self.now.program.now states.new.lists cells.new.items) }
+        ensures begin { IfOk result (λ r. IsBegin self.now.program.now step states.new.lists r) }
+    {
+        if !is_wanted {
+            return Ok(NOWHERE);
+        }
+        let begin = self.begins(step, states)?;
+        self.add_rows(states, cells)?;
+        Ok(begin)
+    }
 }
 
 pub fn has_done(list: &[usize]) -> bool
@@ -351,19 +574,33 @@ pub fn noted(accept: bool, place: usize, best: Option<usize>) -> Option<usize>
 }
 
 /// In which of the first states a match ends.
-fn accepting(alloc: Global, lists: &[Vec<usize>], count: usize) -> Result<Vec<bool>, AllocError>
+fn accepting(alloc: Global, lists: &StepLists, count: usize) -> Result<Vec<bool>, AllocError>
     requires { count ≤ length lists.now }
     ensures { IfOk result
-        (λ flags. AreFlags (λ q. Contains (steps_of (map (λ v. v.items) lists.now) q) 0) count flags.items) }
+        (λ flags. AreFlags (λ q. Contains (steps_of lists.now q) 0) count flags.items) }
 {
-    let mut flags = Vec::new(alloc);
+    let mut flags = Vec::with_capacity(alloc, count)?;
     for at in 0..count {
-        flags.push(has_done(lists[at].as_slice()))?;
+        flags.push(has_done(lists.list(at)))?;
     }
     Ok(flags)
 }
 
 /// Whether a match ends at the steps of the list where the text ends.
+fn ends_in(program: &[Instruction], list: &[usize], room: &mut Room) -> Result<bool, AllocError>
+    requires sound { IsSound program.now }
+    requires some { 0 < length program.now }
+    requires room { IsRoom program.now room.old }
+    ensures ends { IfOk result (λ b. (b ≡ true) ↔ EndsAtLast program.now list.now) }
+    ensures room { OnOk result (IsRoom program.now room.new) }
+{
+    lead(program, AT_LAST, list, room)?;
+    let ends = room.starts.least(0) < NONE;
+    room.starts.clear();
+    Ok(ends)
+}
+
+/// The same, with room of its own.
 pub fn ends_at_last(
     alloc: Global,
     program: &[Instruction],
@@ -373,81 +610,139 @@ pub fn ends_at_last(
     requires some { 0 < length program.now }
     ensures { IfOk result (λ b. (b ≡ true) ↔ EndsAtLast program.now list.now) }
 {
-    let ends = TextEnds {
-        first: false,
-        last: true,
-    };
-    let steps = led(alloc, program, ends, list)?;
-    Ok(has_done(&steps))
+    let mut room = Room::new(alloc, program.len())?;
+    let ends = ends_in(program, list, &mut room)?;
+    Ok(ends)
+}
+
+/// Whether the step waits for the text's end.
+fn waits(step: Instruction) -> bool
+    ensures { result ≡ is_at_end step }
+{
+    match step {
+        Instruction::AtEnd(_) => true,
+        Instruction::Eat(_, _)
+        | Instruction::Fork(_, _)
+        | Instruction::AtStart(_)
+        | Instruction::Done
+        | Instruction::Hole => false,
+    }
+}
+
+/// The same of the step with this number, where the program has it.
+fn waits_at(program: &[Instruction], at: usize) -> bool
+    ensures { result ≡ false → (x : Instruction) → slice_get program.now at ≡ Some x → is_at_end x ≡ false }
+{
+    match program.get(at) {
+        None => false,
+        Some(step) => waits(*step),
+    }
+}
+
+/// Whether a step of the list waits for the text's end.
+fn some_wait(program: &[Instruction], list: &[usize]) -> bool
+    ensures { result ≡ false → NoneWait program.now list.now }
+{
+    for at in list {
+        if waits_at(program, *at) {
+            return true;
+        }
+    }
+    false
+}
+
+/// Whether a match ends at the steps of a state where the text ends. Only a step that waits for the end leads on there.
+fn state_ends(program: &[Instruction], list: &[usize], room: &mut Room) -> Result<bool, AllocError>
+    requires sound { IsSound program.now }
+    requires some { 0 < length program.now }
+    requires closed { IsClosedList program.now list.now }
+    requires room { IsRoom program.now room.old }
+    ensures ends { IfOk result (λ b. (b ≡ true) ↔ EndsAtLast program.now list.now) }
+    ensures room { OnOk result (IsRoom program.now room.new) }
+{
+    if some_wait(program, list) {
+        let ends = ends_in(program, list, room)?;
+        Ok(ends)
+    } else {
+        Ok(has_done(list))
+    }
 }
 
 /// In which of the first states a match ends where the text ends.
 fn ending(
     alloc: Global,
     program: &[Instruction],
-    lists: &[Vec<usize>],
+    lists: &StepLists,
     count: usize,
+    room: &mut Room,
 ) -> Result<Vec<bool>, AllocError>
     requires sound { IsSound program.now }
     requires some { 0 < length program.now }
     requires inside { count ≤ length lists.now }
+    requires closed { AreClosed program.now lists.now }
+    requires room { IsRoom program.now room.old }
     ensures { IfOk result
-        (λ flags. AreFlags (λ q. EndsAtLast program.now (steps_of (map (λ v. v.items) lists.now) q)) count
-        flags.items) }
+        (λ flags. AreFlags (λ q. EndsAtLast program.now (steps_of lists.now q)) count flags.items) }
 {
-    let mut flags = Vec::new(alloc);
+    let mut flags = Vec::with_capacity(alloc, count)?;
     for at in 0..count {
-        let flag = ends_at_last(alloc, program, lists[at].as_slice())?;
+        let flag = state_ends(program, lists.list(at), room)?;
         flags.push(flag)?;
     }
     Ok(flags)
 }
 
-/// The state in which a search begins at the step.
-fn first_state(
-    alloc: Global,
-    program: &[Instruction],
-    first: bool,
-    entry: usize,
-    lists: &mut Vec<Vec<usize>>,
-) -> Result<u8, AllocError>
-    requires { IsSound program.now }
-    ensures later { OnOk result (Later (map (λ v. v.items) lists.old.items) (map (λ v. v.items) lists.new.items)) }
-    ensures first { IfOk result (λ n. IsFirst program.now first entry (map (λ v. v.items) lists.new.items) n) }
-{
-    let ends = TextEnds { first, last: false };
-    let steps = led(alloc, program, ends, &[entry])?;
-    let at = number(lists, steps)?;
-    Ok(at)
-}
-
-/// Whether the step goes on otherwise over the byte than over the one before it.
-fn differs(sets: &[Set], step: Instruction, byte: u8) -> bool
-    requires { 1 ≤ byte }
-    ensures { result ≡ false → target_of sets.now byte step ≡ target_of sets.now (byte - 1) step }
-{
-    target(sets, step, byte) != target(sets, step, byte - 1)
-}
-
-/// Makes the byte an edge where the step goes on otherwise.
-fn add_edge(sets: &[Set], step: Instruction, byte: u8, edges: &mut [bool; 256])
-    requires { 1 ≤ byte }
+/// Makes each byte an edge at which the set ends or begins.
+fn add_set_edges(set: &Set, edges: &mut [bool; 256])
     ensures kept { (b : ℕ) → has edges.new b ≡ false → has edges.old b ≡ false }
-    ensures edge { has edges.new byte ≡ false → target_of sets.now byte step ≡ target_of sets.now (byte - 1) step }
+    ensures edges { (b : ℕ) → b + 1 < 256 → has edges.new (b + 1) ≡ false → has set.now (b + 1) ≡ has set.now b }
 {
-    if differs(sets, step, byte) {
-        edges[byte as usize] = true;
+    for byte in 1..256usize {
+        edges[byte] = edges[byte] | (set[byte] != set[byte - 1]);
+    }
+}
+
+/// Makes the byte an edge, and the one behind it.
+fn add_byte_edges(byte: u8, edges: &mut [bool; 256])
+    ensures kept { (b : ℕ) → has edges.new b ≡ false → has edges.old b ≡ false }
+    ensures edges { (b : ℕ) → b + 1 < 256 → has edges.new (b + 1) ≡ false → (b + 1 ≢ byte) × (b ≢ byte) }
+{
+    edges[byte as usize] = true;
+    if byte < 255 {
+        edges[byte as usize + 1] = true;
+    }
+}
+
+/// Makes each byte an edge at which the class ends or begins.
+fn add_class_edges(sets: &[Set], class: Class, edges: &mut [bool; 256])
+    ensures kept { (b : ℕ) → has edges.new b ≡ false → has edges.old b ≡ false }
+    ensures edges { (b : ℕ) → b + 1 < 256 → has edges.new (b + 1) ≡ false → holds sets.now class (b + 1)
+        ≡ holds sets.now class b }
+{
+    match class {
+        Class::One(byte) => add_byte_edges(byte, edges),
+        Class::Any => {}
+        Class::In(number) => match sets.get(number) {
+            Some(set) => add_set_edges(set, edges),
+            None => {}
+        },
     }
 }
 
 /// Makes each byte an edge over which the step goes on otherwise than over the one before it.
+#[tactic(auto, unfolding(crate::specs::Search::target_of))]
 fn add_edges(sets: &[Set], step: Instruction, edges: &mut [bool; 256])
     ensures kept { (b : ℕ) → has edges.new b ≡ false → has edges.old b ≡ false }
     ensures edges { (b : ℕ) → b + 1 < 256 → has edges.new (b + 1) ≡ false → target_of sets.now (b + 1) step
         ≡ target_of sets.now b step }
 {
-    for byte in 1..256usize {
-        add_edge(sets, step, byte as u8, edges);
+    match step {
+        Instruction::Eat(class, _) => add_class_edges(sets, class, edges),
+        Instruction::Fork(_, _)
+        | Instruction::AtStart(_)
+        | Instruction::AtEnd(_)
+        | Instruction::Done
+        | Instruction::Hole => {}
     }
 }
 
@@ -463,6 +758,46 @@ fn edges(sets: &[Set], program: &[Instruction]) -> [bool; 256]
     edges
 }
 
+/// The same for the step with this number, where the program has it.
+fn add_edges_at(sets: &[Set], program: &[Instruction], at: usize, edges: &mut [bool; 256])
+    ensures kept { (b : ℕ) → has edges.new b ≡ false → has edges.old b ≡ false }
+    ensures edges { (x : Instruction) (b : ℕ) → slice_get program.now at ≡ Some x → b + 1 < 256
+        → has edges.new (b + 1) ≡ false → target_of sets.now (b + 1) x ≡ target_of sets.now b x }
+{
+    match program.get(at) {
+        None => {}
+        Some(step) => add_edges(sets, *step, edges),
+    }
+}
+
+/// The bytes over which some step of the list goes on otherwise than over the one before.
+fn list_edges(sets: &[Set], program: &[Instruction], list: &[usize]) -> [bool; 256]
+    ensures { AreListEdges sets.now program.now list.now result }
+{
+    let mut edges = [false; 256];
+    edges[0] = true;
+    for at in list {
+        add_edges_at(sets, program, *at, &mut edges);
+    }
+    edges
+}
+
+/// For each byte the last one, from it on, before which there is no edge.
+fn alike(edges: &[bool; 256]) -> [u8; 256]
+    ensures { AreRuns edges.now result }
+{
+    let mut last = [255u8; 256];
+    for passed in 1..256usize {
+        let byte = 255 - passed;
+        if edges[byte + 1] {
+            last[byte] = byte as u8;
+        } else {
+            last[byte] = last[byte + 1];
+        }
+    }
+    last
+}
+
 /// The states in which a search begins, at the text's start and later.
 #[derive(Clone, Copy)]
 pub struct Begin {
@@ -470,21 +805,11 @@ pub struct Begin {
     pub later: u8,
 }
 
-/// The states in which a search begins at the step.
-fn begins(
-    alloc: Global,
-    program: &[Instruction],
-    entry: usize,
-    lists: &mut Vec<Vec<usize>>,
-) -> Result<Begin, AllocError>
-    requires { IsSound program.now }
-    ensures later { OnOk result (Later (map (λ v. v.items) lists.old.items) (map (λ v. v.items) lists.new.items)) }
-    ensures begin { IfOk result (λ r. IsBegin program.now entry (map (λ v. v.items) lists.new.items) r) }
-{
-    let first = first_state(alloc, program, true, entry, lists)?;
-    let later = first_state(alloc, program, false, entry, lists)?;
-    Ok(Begin { first, later })
-}
+/// No states.
+const NOWHERE: Begin = Begin {
+    first: UNKNOWN,
+    later: UNKNOWN,
+};
 
 /// A table for searches that begin at the program's entry, and for those that begin at the step `scan`.
 #[derive(Drop)]
@@ -508,29 +833,104 @@ fn blank(
 ) -> StateTable
     ensures { IsBuilt sets.now program.now entry scan result }
 {
-    let begin = Begin {
-        first: UNKNOWN,
-        later: UNKNOWN,
-    };
     StateTable {
         cells: Vec::new(alloc),
         accepts: Vec::new(alloc),
         ends: Vec::new(alloc),
-        entry: begin,
-        scan: begin,
+        entry: NOWHERE,
+        scan: NOWHERE,
         heads: any_heads(),
     }
 }
 
-/// The states of a table before any is met: the one that has no step.
-fn no_states(alloc: Global) -> Result<States, AllocError>
-    ensures { IfOk result (λ states. IsDead (map (λ v. v.items) states.lists.items)) }
+/// About how many states a table has: most have one for each step of the program.
+fn likely_count(program: &[Instruction]) -> usize {
+    program.len().min(UNKNOWN as usize)
+}
+
+/// The states of a table before any is met: the one that has no step. A byte that leads nowhere leads to it.
+fn no_states(alloc: Global, program: &[Instruction]) -> Result<States, AllocError>
+    ensures dead { IfOk result (λ states. IsDead states.lists) }
+    ensures made { IfOk result (λ states. AreMade program.now states) }
 {
-    let mut lists = Vec::new(alloc);
-    lists.push(Vec::new(alloc))?;
+    let count = likely_count(program);
+    let mut lists = StepLists::with_capacity(alloc, count)?;
+    lists.push(&[])?;
+    let mut kernels = StepLists::with_capacity(alloc, count)?;
+    kernels.push(&[])?;
+    let mut numbers = Vec::with_capacity(alloc, count)?;
+    numbers.push(DEAD)?;
+    let slots = vec![in alloc; 0u16; SLOTS]?;
+    let room = Room::new(alloc, program.len())?;
     Ok(States {
         lists,
+        kernels,
+        numbers,
+        slots,
+        eats: Vec::new(alloc),
+        found: Vec::new(alloc),
+        steps: Vec::new(alloc),
+        room,
         work: MAX_WORK,
+    })
+}
+
+/// Whether each match starts at the text's start.
+fn is_anchored(program: &[Instruction], entry: usize) -> bool {
+    match program.get(entry) {
+        Some(Instruction::AtStart(_)) => true,
+        _ => false,
+    }
+}
+
+/// What a match that starts later begins with, where that is wanted.
+fn heads_of(is_wanted: bool, cells: &[[u8; 256]], accepts: &[bool], later: u8) -> Heads
+    ensures heads { AreHeads cells.now accepts.now later result }
+    ensures spread { AreSpread result }
+{
+    if is_wanted {
+        make_heads(cells, accepts, later)
+    } else {
+        any_heads()
+    }
+}
+
+/// The table of the program.
+#[inline(never)]
+fn full_table(
+    alloc: Global,
+    sets: &[Set],
+    program: &[Instruction],
+    entry: usize,
+    scan: usize,
+) -> Result<StateTable, AllocError>
+    requires sound { IsSound program.now }
+    requires some { 0 < length program.now }
+    ensures { IfOk result (λ t. IsBuilt sets.now program.now entry scan t) }
+{
+    let alike = alike(&edges(sets, program));
+    let maker = Maker {
+        sets,
+        program,
+        alike: &alike,
+    };
+    // Where each match starts at the text's start, no later start is looked for.
+    let is_scanned = !is_anchored(program, entry);
+    let mut states = no_states(alloc, program)?;
+    let mut cells = Vec::with_capacity(alloc, likely_count(program))?;
+    // The states of searches from one start come first: they find the matches, and most are small.
+    let entry = maker.begin(true, entry, &mut states, &mut cells)?;
+    let scan = maker.begin(is_scanned, scan, &mut states, &mut cells)?;
+    let accepts = accepting(alloc, &states.lists, cells.len())?;
+    let ends = ending(alloc, program, &states.lists, cells.len(), &mut states.room)?;
+    let heads = heads_of(is_scanned, &cells, &accepts, entry.later);
+    Ok(StateTable {
+        cells,
+        accepts,
+        ends,
+        entry,
+        scan,
+        heads,
     })
 }
 
@@ -547,26 +947,9 @@ pub fn make_table(
     requires some { 0 < length program.now }
     ensures { IfOk result (λ t. IsBuilt sets.now program.now entry scan t) }
 {
-    if !is_wanted || program.len() > MAX_STEPS {
-        return Ok(blank(alloc, sets, program, entry, scan));
+    if is_wanted && program.len() <= MAX_STEPS {
+        full_table(alloc, sets, program, entry, scan)
+    } else {
+        Ok(blank(alloc, sets, program, entry, scan))
     }
-    let edges = edges(sets, program);
-    let mut states = no_states(alloc)?;
-    let mut cells = Vec::new(alloc);
-    // The states of searches from one start come first: they find the matches, and most are small.
-    let entry = begins(alloc, program, entry, &mut states.lists)?;
-    add_rows(alloc, sets, program, &edges, &mut states, &mut cells)?;
-    let scan = begins(alloc, program, scan, &mut states.lists)?;
-    add_rows(alloc, sets, program, &edges, &mut states, &mut cells)?;
-    let accepts = accepting(alloc, &states.lists, cells.len())?;
-    let ends = ending(alloc, program, &states.lists, cells.len())?;
-    let heads = make_heads(&cells, &accepts, entry.later);
-    Ok(StateTable {
-        cells,
-        accepts,
-        ends,
-        entry,
-        scan,
-        heads,
-    })
 }

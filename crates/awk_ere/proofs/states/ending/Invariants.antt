@@ -1,6 +1,9 @@
-use Rattle.std.proofs.Common.{map}
+use Rattle.awk_ere.specs.Making.{IsRoom}
 use Rattle.awk_ere.specs.Table.{steps_of, AreFlags, EndsAtLast}
 use Rattle.awk_ere.proofs.states.ending.Given as goal
 
 abbrev pub invariant-loop-at : goal.invariant-loop-at
-invariant-loop-at l = AreFlags (λ q. EndsAtLast l.program (steps_of (map (λ v. v.items) l.lists) q)) l.at l.flags.items
+invariant-loop-at l = record {
+  flags : AreFlags (λ q. EndsAtLast l.program (steps_of l.lists q)) l.at l.flags.items;
+  room : IsRoom l.program l.room;
+}

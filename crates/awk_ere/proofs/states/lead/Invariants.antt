@@ -4,6 +4,6 @@ use Rattle.awk_ere.proofs.states.lead.Given as goal
 
 abbrev pub invariant-loop-at : goal.invariant-loop-at
 invariant-loop-at l = record {
-  len : length l.starts ≡ length l.program;
-  leading : IsLeading l.program l.ends.first l.ends.last l.list l.at-index l.starts;
+  len : length l.room.starts ≡ length l.program;
+  leading : IsLeading l.program l.ends.first l.ends.last l.list l.at-index l.room.starts;
 }

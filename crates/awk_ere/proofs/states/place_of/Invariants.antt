@@ -1,4 +1,0 @@
-use Rattle.awk_ere.proofs.states.place_of.Given as goal
-
-abbrev pub invariant-loop-at : goal.invariant-loop-at
-invariant-loop-at l = Unit {0}
