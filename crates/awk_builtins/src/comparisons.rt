@@ -16,12 +16,7 @@ use awk_text::value::{Value, numeric};
 use std::alloc::Global;
 
 /// A number with a fraction that is compared with another value: its text by CONVFMT where that is no number.
-fn number_beside(
-    alloc: Global,
-    store: &Store,
-    other: &Value,
-    number: f64,
-) -> Result<Value, Fault>
+fn number_beside(alloc: Global, store: &Store, other: &Value, number: f64) -> Result<Value, Fault>
     ensures ok { IfOk result
         (λ made. beside store.now (numeric store.now.numbers other.now) (Value.Real number) ≡ Ok made) }
     ensures err { IfErr result (λ e. (e ≡ Fault.Memory)

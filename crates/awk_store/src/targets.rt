@@ -60,11 +60,7 @@ pub fn lent<'a>(store: &'a Store, target: &Spot, buffer: &'a mut Buffer) -> Opti
         }
         Spot::Element(_, array, key) => {
             let mut digits = Buffer::new();
-            usual_text(
-                store,
-                store.element(*array, key.text(&mut digits))?,
-                buffer,
-            )
+            usual_text(store, store.element(*array, key.text(&mut digits))?, buffer)
         }
         Spot::Field(number) => {
             if *number == 0 {
