@@ -7,6 +7,7 @@ use Rattle.std.specs.Option.{option_copied}
 use Rattle.std.specs.Result.{result_ok}
 use Rattle.awk_program.specs.Program.{Expression, expressions_of}
 use Rattle.awk_machine.specs.Forms.{listed}
+use Rattle.awk_text.specs.declared.value.Value.{Value}
 
 pub listed-of : (xs : List Expression) → listed (expressions_of xs) ≡ xs
 listed-of [] = refl
@@ -79,3 +80,6 @@ pub ok_some : {X E : Type 0} {P Q : X → Type 0} (r : Result X E) → ((x : X) 
     → IfSome (result_ok r) Q
 ok_some (Ok x) f h = f x h
 ok_some (Err e) f h = tt
+
+abbrev pub value_some : Value → Option Value
+value_some x = Some x

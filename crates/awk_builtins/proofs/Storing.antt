@@ -135,19 +135,22 @@ module _ (g : Given) (w : Whole) (new : Kept) (place at_name : Place) (x : Varia
         (moves (assign_value g w (new, w.1) place element_named (v.Text key) there e h) (λ k hid d a. refl))
         set_element
 
+  module _ (made : Array) (a c : Number) (has : element (kept.array w.0 x) key ≡ Some (of_number a))
+      (puts : put (kept.array w.0 x) key (of_number c) ≡ Ok made)
+      (same : new ≡ with_array (kept.reference w.0 x) made w.0) where
+    pub changes_element : (how : Operator) (e : Expression) (val : Value) (b : Number)
+        → Passes g (value e) w (give val) w → number_of w.0.numbers val ≡ Ok b → operation w.0.numbers how a b ≡ Ok c
+        → Passes g (value (p.change place how element_named e)) w (give (of_number c)) (new, w.1)
+    changes_element how e val b h second is =
+        stores g w (new, w.1) place element_named (v.Text key) there (of_number c)
+        (moves (change_values g w (new, w.1) place element_named (v.Text key) there e how h
+        (reads_element g w x key at_name (of_number a) has))
+        (λ k hid d ag. rw (number_back w.0.numbers a, second, is) refl))
+        (set_element made (of_number c) puts same)
+
   module _ (made : Array) (a c : ℤ) (has : element (kept.array w.0 x) key ≡ Some (v.Num a))
       (puts : put (kept.array w.0 x) key (v.Num c) ≡ Ok made) (same : new ≡ with_array (kept.reference w.0 x) made w.0)
     where
-      pub changes_element : (how : Operator) (e : Expression) (val : Value) (b : ℤ) → Passes g (value e) w (give val) w
-          → number_of w.0.numbers val ≡ Ok (number.Whole b)
-          → operation w.0.numbers how (number.Whole a) (number.Whole b) ≡ Ok (number.Whole c)
-          → Passes g (value (p.change place how element_named e)) w (give (v.Num c)) (new, w.1)
-      changes_element how e val b h second is =
-          stores g w (new, w.1) place element_named (v.Text key) there (v.Num c)
-          (moves (change_values g w (new, w.1) place element_named (v.Text key) there e how h
-          (reads_element g w x key at_name (v.Num a) has)) (λ k hid d ag. rw (second, is) refl))
-          (set_element made (v.Num c) puts same)
-
       pub steps_element : (how : Step) (taken : StepValue)
           → stepped w.0.numbers how (number.Whole a) ≡ Ok (number.Whole c)
           → Passes g (value (p.step place how taken element_named)) w

@@ -1,5 +1,5 @@
 // Assignments that are done at once: what they need is at hand, and their value is not wanted.
-ghost use Rattle.awk_builtins.specs.AtHand.{IsDone};
+ghost use Rattle.awk_builtins.specs.AtHand.{IsDone, IsThere};
 ghost use Rattle.awk_machine.specs.Expressions.{either};
 ghost use Rattle.awk_machine.specs.Forms.{value};
 ghost use Rattle.awk_machine.specs.Operators as machine;
@@ -7,7 +7,7 @@ ghost use Rattle.awk_machine.specs.Pieces.{Piece, give};
 ghost use Rattle.awk_machine.specs.State.{Given};
 ghost use Rattle.awk_program.specs.Program as p;
 ghost use Rattle.awk_program.specs.Program.{expressions_of};
-ghost use Rattle.awk_program.specs.View.{variable_of, view, view_target};
+ghost use Rattle.awk_program.specs.View.{Names, variable_of, view, view_target};
 ghost use Rattle.awk_program.specs.declared.operators.StepValue.{StepValue as Which};
 ghost use Rattle.awk_store.specs.Acts.{Acts, Passes};
 ghost use Rattle.awk_store.specs.Kept as kept;
@@ -16,8 +16,9 @@ ghost use Rattle.awk_streams.specs.Tables.{Table};
 ghost use Rattle.awk_numbers.specs.declared.number.Number.TheVariants as number;
 ghost use Rattle.awk_numbers.specs.declared.number.Numbers.{Numbers as Profile};
 ghost use Rattle.awk_text.specs.Arithmetic.{add};
-ghost use Rattle.awk_text.specs.Values.{of_number};
-ghost use Rattle.std.specs.Prelude.{ℤ, IfSome, None, false, map, true, ◌∷◌, ◌≡◌};
+ghost use Rattle.awk_text.specs.Values.{number_of, of_number};
+ghost use Rattle.awk_text.specs.declared.value.Value.{Value as Val};
+ghost use Rattle.std.specs.Prelude.{ℤ, IfSome, None, Ok, false, map, true, ◌∷◌, ◌≡◌};
 
 use crate::at_hand::elements::{added_at, key_at_hand, number_of_key, put_at_number};
 use crate::at_hand::records::{is_keyed_by_field, is_unsplit, split_record, wants_split};
@@ -104,6 +105,17 @@ fn assigned(
     assigned_element(alloc, store, line, *array, keys.as_slice(), x)
 }
 
+/// The number, which may have a fraction, that a value is, if it is one.
+fn as_number(value: &Value) -> Option<Number>
+    ensures { IfSome result (λ n. value.now ≡ of_number n) }
+{
+    match value {
+        Value::Num(number) => Some(Number::Whole(*number)),
+        Value::Real(number) => Some(Number::Real(*number)),
+        Value::Unset | Value::Text(_) | Value::Input(_) => None,
+    }
+}
+
 /// The number, which may have a fraction, that a variable holds that is not NF, if it holds one.
 fn any_number_kept(store: &Store, variable: Variable) -> Option<Number>
     ensures nf { IfSome result (λ n. kept.is_nf variable ≡ false) }
@@ -112,11 +124,7 @@ fn any_number_kept(store: &Store, variable: Variable) -> Option<Number>
     if is_nf(variable) {
         return None;
     }
-    match store.value(variable)? {
-        Value::Num(number) => Some(Number::Whole(*number)),
-        Value::Real(number) => Some(Number::Real(*number)),
-        Value::Unset | Value::Text(_) | Value::Input(_) => None,
-    }
+    as_number(store.value(variable)?)
 }
 
 /// `variable += number`, and with the other operators, where numbers may have fractions. It stands out of line, so that
@@ -191,7 +199,96 @@ fn added_to_element(
     added_at(store, line, array, keys, operand)
 }
 
-/// `array [ key ] += number`; with the other operators nothing is done.
+/// `array [ key ] += number`, and with the other operators, where the element holds a number, which may have a fraction
+/// as the other one may.
+fn changed_at(
+    store: &mut Store,
+    line: &mut Line,
+    how: Operator,
+    array: Variable,
+    keys: &[Expr],
+    operand: Number,
+) -> bool
+    ensures done { result ≡ true → (x : Names → p.Expression) (val : Val) → IsThere x store.old val →
+        number_of store.old.numbers val ≡ Ok operand → (place at_name : Place) →
+        IsDone (λ names. p.change place how
+        (p.element at_name (variable_of names array) (expressions_of (map (view names) keys.now))) (x names))
+        store.old store.new }
+    ensures not_done { result ≡ false → store.new ≡ store.old }
+{
+    let Some(key) = key_at_hand(store, line, keys) else {
+        return false;
+    };
+    let Some(held) = store.element(array, key) else {
+        return false;
+    };
+    let Some(old) = as_number(held) else {
+        return false;
+    };
+    let Ok(new) = operation(store.numbers(), how, old, operand) else {
+        return false;
+    };
+    match store.put(array, key, Value::of(new)) {
+        Ok(()) => true,
+        Err(_) => false,
+    }
+}
+
+/// `changed_at`, where a whole number is added to one: in its place.
+fn added_whole(
+    store: &mut Store,
+    line: &mut Line,
+    how: Operator,
+    array: Variable,
+    keys: &[Expr],
+    operand: Number,
+) -> bool
+    ensures done { result ≡ true → (x : Names → p.Expression) (val : Val) → IsThere x store.old val →
+        number_of store.old.numbers val ≡ Ok operand → (place at_name : Place) →
+        IsDone (λ names. p.change place how
+        (p.element at_name (variable_of names array) (expressions_of (map (view names) keys.now))) (x names))
+        store.old store.new }
+    ensures not_done { result ≡ false → store.new ≡ store.old }
+{
+    let Operator::Add = how else {
+        return false;
+    };
+    let Number::Whole(by) = operand else {
+        return false;
+    };
+    added_at(store, line, array, keys, by)
+}
+
+/// `array [ key ] += number`, and with the other operators, where numbers may have fractions.
+#[inline(never)]
+fn element_changed_by_any(
+    store: &mut Store,
+    line: &mut Line,
+    how: Operator,
+    array: Variable,
+    keys: &[Expr],
+    x: &Expr,
+) -> bool
+    ensures done { result ≡ true → (place at_name : Place) →
+        IsDone (λ names. p.change place how
+        (p.element at_name (variable_of names array) (expressions_of (map (view names) keys.now))) (view names x.now))
+        store.old store.new }
+    ensures not_done { result ≡ false → store.new ≡ store.old }
+{
+    let numbers = store.numbers();
+    let Some(value) = at_hand(store, x, MOST_LEVELS) else {
+        return false;
+    };
+    let Ok(operand) = value.number(numbers) else {
+        return false;
+    };
+    if added_whole(store, line, how, array, keys, operand) {
+        return true;
+    }
+    changed_at(store, line, how, array, keys, operand)
+}
+
+/// `array [ key ] += number`; with the other operators nothing is done of whole numbers alone.
 fn added_by(
     store: &mut Store,
     line: &mut Line,
@@ -206,6 +303,9 @@ fn added_by(
         store.old store.new }
     ensures not_done { result ≡ false → store.new ≡ store.old }
 {
+    if let Numbers::Double = store.numbers() {
+        return element_changed_by_any(store, line, how, array, keys, x);
+    }
     match how {
         Operator::Add => added_to_element(store, line, array, keys, x),
         _ => false,

@@ -1,5 +1,6 @@
 use Rattle.std.proofs.Common.{map, rules, w64}
 use Rattle.std.proofs.lemmas.Int.{to_z-of_z}
+use Rattle.awk_numbers.specs.declared.number.Number.TheVariants as number
 use Rattle.awk_program.specs.Program.{expressions_of}
 use Rattle.awk_program.specs.View.{variable_of, view}
 use Rattle.awk_program.specs.declared.operators.Operator.TheVariants as operator
@@ -17,6 +18,7 @@ returns-clause-done c = λ yes place at_name.
       val = v.Num a.1;
       gives = λ g t. changes_element g (c.args.store.now, t) c.added_at.new.store place at_name c.args.array
           (expressions_of (map (view (names_in g)) c.args.keys.now)) k.key
-          (k.is g t at_name (variable_of (names_in g) c.args.array)) a.4.0 a.0 a.1 a.2 a.4.1 a.4.2 operator.Add
-          (view (names_in g) c.args.x.now) h.val c.in-Some.operand (h.there g t) h.is a.3;
+          (k.is g t at_name (variable_of (names_in g) c.args.array)) a.4.0
+          (number.Whole a.0) (number.Whole a.1) a.2 a.4.1 a.4.2 operator.Add (view (names_in g) c.args.x.now) h.val
+          (number.Whole c.in-Some.operand) (h.there g t) h.is a.3;
     }
