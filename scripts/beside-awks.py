@@ -267,8 +267,8 @@ main-block
 
 # What stands in the grammar beside it with `--numbers double`. A quotient may be a negative zero in other awks, which
 # the sum with 0 is not. OFMT and CONVFMT are set by statements alone, since other awks look at them later within an
-# expression. A number that is compared with a text, or that a field is set to, is whole: awkbox makes the text of
-# another one by `%.6g` there, and other awks by CONVFMT.
+# expression. A record whose field is set to a number is made a text at once: awkbox makes the field's text by CONVFMT
+# as it was then, and other awks by what it is later.
 FRACTIONS = r"""
 number
     1 operand length(<number>)
@@ -293,6 +293,8 @@ text
 condition
     2 and length($<place>) && ${place} <comparison> <few>
     1 comparison <text:concatenation> <comparison> <few>
+    2 comparison (<number>) <comparison> <text:concatenation>
+    1 comparison <text:concatenation> <comparison> (<number>)
     1 match <number:comparison> ~ <regex>
     1 match <text:comparison> ~ <number-pattern>
 number-pattern
@@ -312,6 +314,8 @@ statement
     2 any if (length(<text-target>) < 60) <number-target> = gsub(<regex>, <number>, {text-target})
     2 any print <items> > <file-number>; close({file-number})
     1 any print <items> >> <file-number>; close({file-number})
+    2 any $<place> = <number>; $0 = $0 ""
+    2 any <text-target> = <number>; gsub(<regex>, "-", {text-target})
     2 any while ((getline <text-target> < <file-number>) > 0) <print-block>; close({file-number})
     7 any <number-target> += <decimal>
     2 any <number-target> = <number:product> / <divisor> + 0
