@@ -6,7 +6,7 @@ use Rattle.std.specs.List.{slice_get, Contains}
 use Rattle.std.proofs.lemmas.Bool.{cases_lt, cases_eq}
 use Rattle.std.proofs.lemmas.List.{get_or_default, get_or-set_same, get_or-set_other}
 use Rattle.awk_ere.specs.Program.{Skips, left, right, at_start, at_end, SkipPath, IsSound}
-use Rattle.awk_ere.specs.Search.{mark, target_of, Takes}
+use Rattle.awk_ere.specs.Search.{mark, target_of}
 use Rattle.awk_ere.specs.Table.{steps_of, Gains, IsLed, AreLed, AreTargets, IsKnown, IsNumber, AreEdges, EndsAtLast}
 use Rattle.awk_ere.specs.Table.{Later}
 use Rattle.awk_ere.specs.Closure.{is_at_end, is_eat, AreEating, IsClosedList, IsEat, NoneWait}
