@@ -44,7 +44,8 @@ module _ (g : Given) (w : Whole) (place : Place) (how : Comparison) (x y : Expre
   -- the values are there already
   pub compares : (a b : Value) (made : Result Bool Fault) → IfOk made (λ h. compared_by w.0 how a b ≡ Ok (of_truth h))
       → IfErr made (λ e. (e ≡ fault.Memory) ⊎ (compared_by w.0 how a b ≡ Err e))
-      → Acts g (At (Value_of (p.compare place how x y)) (b ∷ a ∷ [])) (λ h. give (of_truth h)) w (result_at place made) w
+      → Acts g (At (Value_of (p.compare place how x y)) (b ∷ a ∷ [])) (λ h. give (of_truth h)) w
+      (result_at place made) w
   compares a b (Ok h) ok err = done (moves (at_rest _ w)
       (λ k hid d agrees. ap (λ r. held g (seen (base g w hid) d) (deliver place r k (seen (base g w hid) d)))
       (compared-so g w hid d agrees how a b ∙ ok)))

@@ -38,7 +38,8 @@ use Rattle.awk_builtins.proofs.PrintSteps.{then_same}
 -- ---- comparisons
 
 -- what is no number with a fraction is compared as it is
-pub plain_beside : (kept : Kept) (o : Option Number) (x : Value) → by_convfmt kept x ≡ Ok x → spec.beside kept o x ≡ Ok x
+pub plain_beside : (kept : Kept) (o : Option Number) (x : Value) → by_convfmt kept x ≡ Ok x
+    → spec.beside kept o x ≡ Ok x
 plain_beside kept (Some n) x e = refl
 plain_beside kept None x e = e
 

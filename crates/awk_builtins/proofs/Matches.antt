@@ -1,6 +1,6 @@
 -- How forms come to the use of their pattern.
-use Rattle.std.proofs.Common.{◌≡◌, ◌⊎◌, ◌<◌, ◌≤◌, ◌∙◌, inl, inr, refl, ap, Bool, true, false, List, [], ◌∷◌, ◌++◌, length}
-use Rattle.std.proofs.Common.{arith}
+use Rattle.std.proofs.Common.{◌≡◌, ◌⊎◌, ◌<◌, ◌≤◌, ◌∙◌, inl, inr, refl, ap, Bool, true, false, List, [], ◌∷◌, ◌++◌}
+use Rattle.std.proofs.Common.{arith, length}
 use Rattle.std.proofs.lemmas.Bool.Decides.{nat_tests}
 use Rattle.std.specs.Prelude.{ℤ, pos, Option, Some, None, Result, Ok, Err, nat_lt, IfOk, IfErr}
 use Rattle.awk_fields.specs.Separators.{Separator, separator, ere, IsNoEre}
@@ -17,8 +17,8 @@ use Rattle.awk_program.specs.Slots.{Text}
 use Rattle.awk_machine.specs.Advances.{held}
 use Rattle.awk_machine.specs.Builtins.{split_by, is_all}
 use Rattle.awk_machine.specs.Forms.{checked}
-use Rattle.awk_machine.specs.Pieces.{Piece, Target, At, Do, Get, Check, Split, Set, Give, Goes, Substitute, Value_of, give}
-use Rattle.awk_machine.specs.Pieces.{granted}
+use Rattle.awk_machine.specs.Pieces.{Piece, Target, At, Do, Get, Check, Split, Set, Give, Goes, Substitute, Value_of}
+use Rattle.awk_machine.specs.Pieces.{give, granted}
 use Rattle.awk_machine.specs.State.{Given}
 use Rattle.awk_machine.specs.Streams.{seen}
 use Rattle.awk_machine.specs.Targets.{check_separator, target}
@@ -161,7 +161,8 @@ module _ (place : Place) (how : Extent) (x : p.Ere) (y : Expression) (r : Refere
 
     -- a text that is lent
     pub replaces_lent : (source text : Text) → text_of pattern ≡ source → (val : Value)
-        × (by_convfmt old.0 val ≡ Ok val) × (text_of val ≡ text) × Passes g (Do (Get to)) old (give val) old → Passes g from old (reading place how x y r at new pattern) old →
+        × (by_convfmt old.0 val ≡ Ok val) × (text_of val ≡ text) × Passes g (Do (Get to)) old (give val) old
+        → Passes g from old (reading place how x y r at new pattern) old →
         Passes g from old (λ k. Do (Substitute place to source (text_of new) text (is_all how)) ∷ k) old
     replaces_lent source text f (val, stays, is, lends) h = replaces_in {mid = old} val val source text stays f is
         (doing (tt {0}) (reads_old h) (done {on = λ (u : Unit {0}). give val} lends) refl)

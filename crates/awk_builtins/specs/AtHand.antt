@@ -1,6 +1,7 @@
 -- Expressions whose value is there: to evaluate them changes nothing and meets no fault; and assignments that are done
 -- at once.
 use Rattle.std.specs.Prelude.{◌≡◌, ◌<◌, ◌≤◌, ℕ, ℤ, Bool, false, true, Ok, Some, List, [], ◌∷◌, Option, length, map}
+use Rattle.awk_numbers.specs.declared.number.Number.{Number}
 use Rattle.awk_numbers.specs.declared.number.Number.TheVariants as number
 use Rattle.awk_fields.specs.Rows.{joined}
 use Rattle.awk_text.specs.Limits.{most_bytes}
@@ -12,9 +13,10 @@ use Rattle.awk_program.specs.Program as p
 use Rattle.awk_program.specs.Program.{Expression, expressions_of, joins_of}
 use Rattle.awk_program.specs.declared.builtins.Builtin.{Builtin}
 use Rattle.awk_program.specs.declared.builtins.Builtin.TheVariants as b
+use Rattle.awk_program.specs.declared.operators.Operator.{Operator}
 use Rattle.awk_program.specs.declared.variables.Own.TheVariants as own
 use Rattle.awk_program.specs.declared.variables.Variable.{Variable}
-use Rattle.awk_program.specs.View.{Names, view, view_joined}
+use Rattle.awk_program.specs.View.{Names, variable_of, view, view_joined}
 use Rattle.awk_program.specs.declared.expressions.Expr.{Expr}
 use Rattle.awk_program.specs.declared.expressions.Joined.{Joined}
 use Rattle.awk_program.specs.declared.expressions.Target.{Target}
@@ -116,3 +118,11 @@ pub record AddsAt (of_ : Variable) (keys : List Expr) (by_ : ℤ) (old new : Kep
   pub is : IsKey keys old key
   pub adds :
       Adds old.numbers (Some (array old of_)) key by_ (λ elements. new ≡ with_array (reference old of_) elements old)
+
+-- the element with these subscripts is given what an operator makes of the number that it holds and of another one, which
+-- is that of any value that is there
+abbrev pub ChangesAt : Operator → Variable → List Expr → Number → Kept → Kept → Type 0
+ChangesAt how of_ keys operand old new = (x : Names → Expression) (val : Value) → IsThere x old val
+    → number_of old.numbers val ≡ Ok operand → (place at_name : Place)
+    → IsDone (λ names. p.change place how
+    (p.element at_name (variable_of names of_) (expressions_of (map (view names) keys))) (x names)) old new

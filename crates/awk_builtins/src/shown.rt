@@ -7,8 +7,8 @@ ghost use Rattle.std.specs.Prelude.{Ok, ◌≡◌};
 
 use awk_program::Expr;
 
-/// What is evaluated for an operand of which a text is wanted: the whole has its value where CONVFMT makes no other text
-/// of that. Any other expression is itself.
+/// What is evaluated for an operand of which a text is wanted: the whole has its value where CONVFMT makes no other
+/// text of that. Any other expression is itself.
 #[inline(always)]
 pub(crate) fn operand_of(e: &Expr) -> &Expr
     ensures { (k : Kept) (val : Val) → by_convfmt k val ≡ Ok val →

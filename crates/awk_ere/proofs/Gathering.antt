@@ -1,10 +1,10 @@
 -- How the states of a table are made.
 use Rattle.std.proofs.Common.{◌≡◌, ◌↔◌, ℕ, zero, suc, ◌+◌, ◌<◌, ◌≤◌, inl, inr, Bool, true, false, List, [], ◌∷◌, ◌++◌}
 use Rattle.std.proofs.Common.{length, get_or, map, Some, None, refl, sym, ◌∙◌, ap, subst, append_assoc, arith}
-use Rattle.std.proofs.Math.ListN.{get_or-eq_default, set, length-append}
+use Rattle.std.proofs.Math.ListN.{get_or-eq_default, length-append}
 use Rattle.std.specs.List.{slice_get, Contains}
 use Rattle.std.proofs.lemmas.Bool.{cases_lt, cases_eq}
-use Rattle.std.proofs.lemmas.List.{get_or_default, get_or-set_same, get_or-set_other}
+use Rattle.std.proofs.lemmas.List.{get_or_default}
 use Rattle.std.proofs.lemmas.List.Elements.{Contains-append_left, Contains-push, Contains-push_cases, Contains-get_or}
 use Rattle.std.proofs.lemmas.Option.{slice_get_within, none-some}
 use Rattle.awk_ere.specs.Program.{Skips, left, right, at_start, at_end, IsSound}
@@ -199,13 +199,6 @@ pub later_then : (a b c : List (List ℕ)) → Later a b → Later b c → Later
 later_then a b c (xs, is) (ys, are) = (xs ++ ys, are ∙ ap (λ z. z ++ ys) is ∙ append_assoc a xs ys)
 
 module _ {V : Type 0} (f : V → List ℕ) where
-  pub map_push : (xs : List V) (x : V) → map f (xs ++ x ∷ []) ≡ map f xs ++ f x ∷ []
-  map_push [] x = refl
-  map_push (y ∷ ys) x = ap (λ z. f y ∷ z) (map_push ys x)
-
-  pub later_push : (xs ys : List V) (x : V) → ys ≡ xs ++ x ∷ [] → Later (map f xs) (map f ys)
-  later_push xs ys x is = (f x ∷ [], ap (λ z. map f z) is ∙ map_push xs x)
-
   pub map_length : (xs : List V) → length (map f xs) ≡ length xs
   map_length [] = refl
   map_length (x ∷ xs) = let e = map_length xs in omega arith
@@ -214,26 +207,6 @@ module _ {V : Type 0} (f : V → List ℕ) where
   steps_is [] i x lt is = absurd (omega arith)
   steps_is (y ∷ ys) zero x lt is = ap f (sym is)
   steps_is (y ∷ ys) (suc i) x lt is = steps_is ys i x (omega arith) is
-
-  last_step : (xs : List V) (x : V) → steps_of (map f (xs ++ x ∷ [])) (length xs) ≡ f x
-  last_step [] x = refl
-  last_step (y ∷ ys) x = last_step ys x
-
-  pub number_push : (xs ys : List V) (x : V) (n : ℕ) → ys ≡ xs ++ x ∷ [] → n ≡ length xs → IsNumber (f x) (map f ys) n
-  number_push xs ys x n is same = λ small. (
-    (let a = map_length ys in let b = ap length is in let c = length_more xs in omega arith),
-    ap (λ k. steps_of (map f ys) k) same ∙ ap (λ z. steps_of (map f z) (length xs)) is ∙ last_step xs x,
-  ) where
-    length_more : (zs : List V) → length (zs ++ x ∷ []) ≡ length zs + 1
-    length_more [] = omega arith
-    length_more (z ∷ zs) = let e = length_more zs in omega arith
-
-  pub number_old : (xs : List V) (list : List ℕ) (n : ℕ) → n < length xs → steps_of (map f xs) n ≡ list
-      → IsNumber list (map f xs) n
-  number_old xs list n lt is = λ small. (let a = map_length xs in omega arith, is)
-
-pub number_none : (list : List ℕ) (lists : List (List ℕ)) → IsNumber list lists UNKNOWN
-number_none list lists = λ small. absurd (omega arith)
 
 pub marked_inside : (starts : List ℕ) (p : ℕ) → mark starts p < NONE → p < length starts
 marked_inside starts p marked = elim (cases_lt p (length starts)) [

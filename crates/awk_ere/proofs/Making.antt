@@ -1,15 +1,16 @@
 -- How the rows of a table are made, and the states that they name.
-use Rattle.std.proofs.Common.{◌≡◌, ◌↔◌, ◌⊎◌, ℕ, zero, suc, ◌+◌, ◌<◌, ◌≤◌, inl, inr, Bool, true, false, List, [], ◌∷◌, ◌++◌}
-use Rattle.std.proofs.Common.{◌-◌, Some, length, get_or, refl, sym, ◌∙◌, ap, subst, arith}
+use Rattle.std.proofs.Common.{◌≡◌, ◌↔◌, ◌⊎◌, ℕ, zero, suc, ◌+◌, ◌-◌, ◌<◌, ◌≤◌, inl, inr, Bool, true, false, List, []}
+use Rattle.std.proofs.Common.{◌∷◌, ◌++◌, Some, length, get_or, refl, sym, ◌∙◌, ap, subst, arith}
 use Rattle.std.proofs.Math.ListN.{length-append, length-set, set}
 use Rattle.std.specs.List.{slice_get, Contains}
 use Rattle.std.proofs.lemmas.Bool.{cases_lt, cases_eq}
 use Rattle.std.proofs.lemmas.List.{get_or_default, get_or-set_same, get_or-set_other}
 use Rattle.awk_ere.specs.Program.{Skips, left, right, at_start, at_end, SkipPath, IsSound}
-use Rattle.awk_ere.specs.Search.{mark, target_of, Takes}
-use Rattle.awk_ere.specs.Table.{steps_of, Gains, IsLed, AreLed, AreTargets, IsKnown, IsNumber, AreEdges, EndsAtLast, Later}
-use Rattle.awk_ere.specs.Making.{is_eat, IsEat, IsMadeBy, AreEating, AreMadeBy, AreListEdges, AreRuns}
-use Rattle.awk_ere.specs.Making.{is_at_end, AreClosed, IsClosedList, NoneWait}
+use Rattle.awk_ere.specs.Search.{mark, target_of}
+use Rattle.awk_ere.specs.Table.{steps_of, Gains, IsLed, AreLed, AreTargets, IsKnown, IsNumber, AreEdges, EndsAtLast}
+use Rattle.awk_ere.specs.Table.{Later}
+use Rattle.awk_ere.specs.Closure.{is_at_end, is_eat, AreEating, IsClosedList, IsEat, NoneWait}
+use Rattle.awk_ere.specs.Making.{AreClosed, AreListEdges, AreMadeBy, AreRuns, IsMadeBy}
 use Rattle.awk_ere.specs.declared.program.Instruction.{Instruction}
 use Rattle.awk_ere.specs.declared.program.Instruction.TheVariants.{Eat, AtEnd}
 use Rattle.awk_ere.specs.declared.search.TheConstants.{NONE}
@@ -102,13 +103,6 @@ pub grown_later : (lists all : List (List ℕ)) (list : List ℕ) → (all ≡ l
     → Later lists all
 grown_later lists all list (inl same) = subst (λ zs. Later lists zs) (sym same) (later_self lists)
 grown_later lists all list (inr more) = (list ∷ [], more)
-
-pub number_new : (lists all : List (List ℕ)) (list : List ℕ) (n : ℕ) → all ≡ lists ++ list ∷ [] → n ≡ length lists
-    → IsNumber list all n
-number_new lists all list n is at = λ small. (
-  (let e = ap length is in omega (arith, at, e, length-append {A = List ℕ})),
-  ap (λ k. steps_of all k) at ∙ ap (λ z. steps_of z (length lists)) is ∙ last_list lists list,
-)
 
 -- kernels
 module _ (program : List Instruction) where
@@ -282,7 +276,8 @@ module _ (sets : List (List Bool)) (program : List Instruction) where
       ];
       rest = λ b c same ge within.
           let after = (runs.inside k small).0 in
-          rest c (omega (arith, after, ge)) within ∙ sym (rest b (omega (arith, after, same)) (omega (arith, same, ge)));
+          rest c (omega (arith, after, ge)) within
+          ∙ sym (rest b (omega (arith, after, same)) (omega (arith, same, ge)));
     } where
       offset : (b : ℕ) → k ≤ b → (d : ℕ) × (b ≡ k + d)
       offset b le = (b - k, omega (arith, le))

@@ -1,5 +1,5 @@
 -- Lists that stand one behind the other.
-use Rattle.std.specs.Prelude.{◌≡◌, ℕ, ◌-◌, ◌≤◌, List, [], ◌∷◌, slice_range}
+use Rattle.std.specs.Prelude.{ℕ, ◌≤◌, List, [], ◌∷◌, slice_range}
 
 -- the pieces of s that end at these places, the first of which begins at `from`
 abbrev pub pieces : ℕ → List ℕ → List ℕ → List (List ℕ)

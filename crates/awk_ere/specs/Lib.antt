@@ -15,6 +15,7 @@ pub mod Search
 pub mod Runs
 pub mod Table
 pub mod Cuts
+pub mod Closure
 pub mod Making
 pub mod Matcher
 pub mod Lazy

@@ -1,19 +1,14 @@
 -- How the rows of a table are made.
-use Rattle.std.specs.Prelude.{◌≡◌, ◌↔◌, ℕ, ◌+◌, ◌<◌, ◌≤◌, Bool, true, false, List, Some, length, slice_get}
-use Rattle.std.specs.Prelude.{slice_index, slice_index_or, Contains}
-use Rattle.awk_ere.specs.Program.{IsSound, Skips}
-use Rattle.awk_ere.specs.Search.{IsBlank, Takes}
+use Rattle.std.specs.Prelude.{◌≡◌, ◌↔◌, ℕ, ◌+◌, ◌<◌, ◌≤◌, Bool, true, false, List, length, slice_index}
+use Rattle.std.specs.Prelude.{slice_index_or, Contains}
+use Rattle.awk_ere.specs.Closure.{IsClosedList, IsRoom}
+use Rattle.awk_ere.specs.Program.{IsSound}
+use Rattle.awk_ere.specs.Search.{Takes}
 use Rattle.awk_ere.specs.Table.{steps_of, AreEdges, IsLed}
 use Rattle.awk_ere.specs.declared.program.Instruction.{Instruction}
-use Rattle.awk_ere.specs.declared.program.Instruction.TheVariants.{Eat, Fork, AtStart, AtEnd, Done, Hole}
 use Rattle.awk_ere.specs.declared.states.TheConstants.{SLOTS, UNKNOWN}
 use Rattle.awk_ere.specs.declared.states.Maker.{Maker}
-use Rattle.awk_ere.specs.declared.states.Room.{Room}
 use Rattle.awk_ere.specs.declared.states.States.{States}
-
--- room for the marks of the program's steps, none of which is marked
-abbrev pub IsRoom : List Instruction → Room → Type 0
-IsRoom program r = (length r.starts ≡ length program) × IsBlank r.starts
 
 -- where the number is that of a state, it has the steps that those of the kernel lead to without reading
 abbrev pub IsMadeBy : List Instruction → List (List ℕ) → List ℕ → ℕ → Type 0
@@ -25,24 +20,9 @@ pub record AreMadeBy (program : List Instruction) (lists kernels : List (List �
   pub len : length numbers ≡ length kernels
   pub each : (i : ℕ) → i < length kernels → IsMadeBy program lists (steps_of kernels i) (slice_index numbers i)
 
--- what a step of the list leads to without reading, with bytes on both sides, is in the list
-abbrev pub IsClosedList : List Instruction → List ℕ → Type 0
-IsClosedList program list = (q r : ℕ) → Contains list q → Skips program false false q r → Contains list r
-
+-- each list has what its steps lead to without reading, with bytes on both sides
 abbrev pub AreClosed : List Instruction → List (List ℕ) → Type 0
 AreClosed program lists = (q : ℕ) → q < length lists → IsClosedList program (steps_of lists q)
-
--- whether the step waits for the text's end
-abbrev pub is_at_end : Instruction → Bool
-is_at_end (Eat k r) = false
-is_at_end (Fork x y) = false
-is_at_end (AtStart r) = false
-is_at_end (AtEnd r) = true
-is_at_end Done = false
-is_at_end Hole = false
-
-abbrev pub NoneWait : List Instruction → List ℕ → Type 0
-NoneWait program list = (q : ℕ) (x : Instruction) → Contains list q → slice_get program q ≡ Some x → is_at_end x ≡ false
 
 -- the states know by which kernels they were made, and have room for more; each hash has a slot
 pub record AreMade (program : List Instruction) (s : States) : Type 0 where
@@ -50,22 +30,6 @@ pub record AreMade (program : List Instruction) (s : States) : Type 0 where
   pub by : AreMadeBy program s.lists s.kernels s.numbers.items
   pub slots : length s.slots.items ≡ SLOTS
   pub closed : AreClosed program s.lists
-
--- whether the step takes a byte
-abbrev pub is_eat : Instruction → Bool
-is_eat (Eat k r) = true
-is_eat (Fork x y) = false
-is_eat (AtStart r) = false
-is_eat (AtEnd r) = false
-is_eat Done = false
-is_eat Hole = false
-
-abbrev pub IsEat : List Instruction → ℕ → Type 0
-IsEat program q = (x : Instruction) × (slice_get program q ≡ Some x) × (is_eat x ≡ true)
-
--- these are the steps of the list that take a byte
-abbrev pub AreEating : List Instruction → List ℕ → List ℕ → Type 0
-AreEating program list eating = (q : ℕ) → Contains eating q ↔ (Contains list q × IsEat program q)
 
 -- where the byte b is no edge, each step of the list takes it where it takes the byte before
 abbrev pub AreListEdges : List (List Bool) → List Instruction → List ℕ → List Bool → Type 0

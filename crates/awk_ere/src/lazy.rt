@@ -10,9 +10,10 @@ ghost use Rattle.awk_ere.specs.Table.{EndsAtLast, EndsSomewhere, IsCell, IsLed, 
 ghost use Rattle.awk_ere.specs.declared.program.Instruction.{Instruction};
 
 use crate::bracket::Set;
+use crate::closure::{ends_at_last, has_done, led, steps_after};
 use crate::program::Instruction;
 use crate::search::TextEnds;
-use crate::states::{ends_at_last, has_done, led, noted, steps_after};
+use crate::states::noted;
 use awk_text::Memory;
 use indexmap::IndexSet;
 use std::alloc::{AllocError, Global};

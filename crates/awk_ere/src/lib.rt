@@ -2,7 +2,9 @@
 #![tactic(auto)]
 
 mod bracket;
+mod closure;
 mod compile;
+mod edges;
 mod ends;
 pub mod ere;
 pub mod error;

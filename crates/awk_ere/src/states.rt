@@ -1,22 +1,19 @@
 // The states of a table: sets of steps, with their cells.
-ghost use Rattle.std.specs.Prelude.{◌≡◌, ◌≢◌, ◌↔◌, ◌⊎◌, ◌+◌, ◌++◌, ◌<◌, ◌≤◌, ◌∷◌, [], ℕ, true, false, length};
-ghost use Rattle.std.specs.Prelude.{Some, slice_get, slice_index, Contains, IfOk, OnOk, IfSome, if◌then◌else◌};
-ghost use Rattle.awk_ere.specs.Lexing.{has};
-ghost use Rattle.awk_ere.specs.Program.{IsSound, holds};
-ghost use Rattle.awk_ere.specs.Search.{mark, target_of, IsBlank, IsClosed, Takes};
-ghost use Rattle.awk_ere.specs.Table.{steps_of, Gains, LeadsMore, IsLed, AreLed, AreMarked, AreTargets, Later};
-ghost use Rattle.awk_ere.specs.Table.{IsNumber, IsCell, IsKnown, AreEdges, AreRows, AreFlags, EndsAtLast, IsFirst};
+ghost use Rattle.std.specs.Prelude.{◌≡◌, ◌⊎◌, ◌+◌, ◌++◌, ◌<◌, ◌≤◌, ◌∷◌, [], ℕ, true, length, slice_index, Contains};
+ghost use Rattle.std.specs.Prelude.{IfOk, OnOk, IfSome, if◌then◌else◌};
+ghost use Rattle.awk_ere.specs.Closure.{IsRoom};
+ghost use Rattle.awk_ere.specs.Making.{AreClosed, AreMade, IsMadeBy, IsMaker};
+ghost use Rattle.awk_ere.specs.Program.{IsSound};
+ghost use Rattle.awk_ere.specs.Table.{steps_of, Later, IsNumber, IsKnown, AreRows, AreFlags, EndsAtLast, IsFirst};
 ghost use Rattle.awk_ere.specs.Table.{IsBegin, IsDead, IsBuilt, AreHeads, AreSpread};
-ghost use Rattle.awk_ere.specs.Making.{is_eat, AreEating, AreListEdges, AreMade, AreRuns, IsEat, IsMadeBy};
-ghost use Rattle.awk_ere.specs.Making.{IsMaker, IsRoom, AreClosed, IsClosedList, NoneWait, is_at_end};
-ghost use Rattle.awk_ere.specs.declared.program.Instruction.{Instruction};
 
 use crate::bracket::Set;
+use crate::closure::{INSIDE, Room, find_eating, find_led, find_targets, has_done, state_ends};
+use crate::edges::{alike, edges, list_edges};
 use crate::heads::{Heads, any_heads, make_heads};
 use crate::pieces::StepLists;
 use crate::program::Instruction;
-use crate::search::{NONE, Starts, TextEnds, reach, target};
-use crate::token::Class;
+use crate::search::TextEnds;
 use std::alloc::{AllocError, Global};
 
 /// The number of no state: the table does not say where the search goes on.
@@ -40,39 +37,6 @@ const MIXER: usize = 0x9E37_79B9_7F4A_7C15;
 /// The edges of a step cost as much as looking at so many steps, since it may take a set of bytes.
 const EDGE_WORK: usize = 8;
 
-/// A place with bytes before it and behind it.
-const INSIDE: TextEnds = TextEnds {
-    first: false,
-    last: false,
-};
-
-/// A text's end with bytes before it.
-const AT_LAST: TextEnds = TextEnds {
-    first: false,
-    last: true,
-};
-
-/// Marks of a program's steps, and a stack, which are used again for each list of steps. In between no step is marked.
-#[derive(Drop)]
-pub struct Room {
-    starts: Starts,
-    stack: Vec<usize>,
-}
-
-impl Room {
-    /// For programs of so many steps.
-    pub fn new(alloc: Global, len: usize) -> Result<Room, AllocError>
-        ensures len { IfOk result (λ room. length room.starts ≡ len) }
-        ensures blank { IfOk result (λ room. IsBlank room.starts) }
-    {
-        let starts = Starts::new(alloc, len)?;
-        Ok(Room {
-            starts,
-            stack: Vec::new(alloc),
-        })
-    }
-}
-
 /// The states of a table so far, each by its steps, and how much work may still be done for more of them.
 #[derive(Drop)]
 struct States {
@@ -90,145 +54,6 @@ struct States {
     steps: Vec<usize>,
     room: Room,
     work: usize,
-}
-
-/// Adds the step that this one goes to over the byte.
-fn push_target(
-    sets: &[Set],
-    program: &[Instruction],
-    at: usize,
-    byte: u8,
-    found: &mut Vec<usize>,
-) -> Result<(), AllocError>
-    ensures { OnOk result (Gains (λ t. Takes sets.now program.now byte at t) found.old.items found.new.items) }
-{
-    match program.get(at) {
-        None => Ok(()),
-        Some(step) => match target(sets, *step, byte) {
-            None => Ok(()),
-            Some(to) => {
-                found.push(to)?;
-                Ok(())
-            }
-        },
-    }
-}
-
-/// Finds the steps that those of the list go to over the byte.
-fn find_targets(
-    sets: &[Set],
-    program: &[Instruction],
-    list: &[usize],
-    byte: u8,
-    found: &mut Vec<usize>,
-) -> Result<(), AllocError>
-    ensures { OnOk result (AreTargets sets.now program.now byte list.now found.new.items) }
-{
-    found.clear();
-    for at in list {
-        push_target(sets, program, *at, byte, found)?;
-    }
-    Ok(())
-}
-
-/// Marks the steps that this one leads to without reading, where the program has it.
-fn lead_from(
-    program: &[Instruction],
-    ends: TextEnds,
-    at: usize,
-    starts: &mut Starts,
-    stack: &mut Vec<usize>,
-) -> Result<(), AllocError>
-    requires sound { IsSound program.now }
-    requires len { length starts.old ≡ length program.now }
-    requires closed { IsClosed program.now ends.first ends.last starts.old }
-    ensures len { OnOk result (length starts.new ≡ length program.now) }
-    ensures more { OnOk result (LeadsMore program.now ends.first ends.last at starts.old starts.new) }
-{
-    if at < program.len() {
-        reach(program, ends, at, 0, starts, stack)?;
-        Ok(())
-    } else {
-        Ok(())
-    }
-}
-
-/// Marks the steps that those of the list lead to without reading.
-fn lead(
-    program: &[Instruction],
-    ends: TextEnds,
-    list: &[usize],
-    room: &mut Room,
-) -> Result<(), AllocError>
-    requires sound { IsSound program.now }
-    requires room { IsRoom program.now room.old }
-    ensures len { OnOk result (length room.new.starts ≡ length program.now) }
-    ensures led { OnOk result (AreLed program.now ends.first ends.last list.now room.new.starts) }
-{
-    for at in list {
-        lead_from(program, ends, *at, &mut room.starts, &mut room.stack)?;
-    }
-    Ok(())
-}
-
-/// Adds the step where it is marked.
-fn push_marked(starts: &Starts, at: usize, list: &mut Vec<usize>) -> Result<(), AllocError>
-    requires { at < length starts.now }
-    ensures { OnOk result (Gains (λ p. (p ≡ at) × (mark starts.now p < NONE)) list.old.items list.new.items) }
-{
-    if starts.least(at) < NONE {
-        list.push(at)?;
-        Ok(())
-    } else {
-        Ok(())
-    }
-}
-
-/// Finds the marked steps, in order.
-fn find_marked(starts: &Starts, list: &mut Vec<usize>) -> Result<(), AllocError>
-    ensures { OnOk result (AreMarked starts.now list.new.items) }
-{
-    list.clear();
-    list.reserve(starts.count())?;
-    for at in 0..starts.len() {
-        push_marked(starts, at, list)?;
-    }
-    Ok(())
-}
-
-/// Finds the steps that those of the list lead to without reading.
-fn find_led(
-    program: &[Instruction],
-    ends: TextEnds,
-    list: &[usize],
-    room: &mut Room,
-    led: &mut Vec<usize>,
-) -> Result<(), AllocError>
-    requires sound { IsSound program.now }
-    requires room { IsRoom program.now room.old }
-    ensures led { OnOk result (IsLed program.now ends.first ends.last list.now led.new.items) }
-    ensures room { OnOk result (IsRoom program.now room.new) }
-{
-    lead(program, ends, list, room)?;
-    find_marked(&room.starts, led)?;
-    room.starts.clear();
-    Ok(())
-}
-
-/// The same, with room of its own.
-pub fn led(
-    alloc: Global,
-    program: &[Instruction],
-    ends: TextEnds,
-    list: &[usize],
-) -> Result<Vec<usize>, AllocError>
-    requires { IsSound program.now }
-    ensures { IfOk result (λ led. IsLed program.now ends.first ends.last list.now led.items) }
-{
-    let mut room = Room::new(alloc, program.len())?;
-    let mut found = Vec::new(alloc);
-    find_led(program, ends, list, &mut room, &mut found)?;
-    Ok(found)
 }
 
 /// Whether the list stands at the place.
@@ -273,70 +98,6 @@ fn number(lists: &mut StepLists, list: &[usize]) -> Result<u8, AllocError>
             }
         }
     }
-}
-
-/// The steps that those of the list lead to over the byte.
-pub fn steps_after(
-    alloc: Global,
-    sets: &[Set],
-    program: &[Instruction],
-    list: &[usize],
-    byte: u8,
-) -> Result<Vec<usize>, AllocError>
-    requires { IsSound program.now }
-    ensures { IfOk result (λ steps. IsCell sets.now program.now byte list.now steps.items) }
-{
-    let mut targets = Vec::new(alloc);
-    find_targets(sets, program, list, byte, &mut targets)?;
-    if targets.is_empty() {
-        return Ok(targets);
-    }
-    let steps = led(alloc, program, INSIDE, &targets)?;
-    Ok(steps)
-}
-
-/// Whether the step takes a byte.
-fn eats(step: Instruction) -> bool
-    ensures { result ≡ is_eat step }
-{
-    match step {
-        Instruction::Eat(_, _) => true,
-        Instruction::Fork(_, _)
-        | Instruction::AtStart(_)
-        | Instruction::AtEnd(_)
-        | Instruction::Done
-        | Instruction::Hole => false,
-    }
-}
-
-/// Adds the step where it takes a byte.
-fn push_eating(program: &[Instruction], at: usize, found: &mut Vec<usize>) -> Result<(), AllocError>
-    ensures { OnOk result (Gains (λ p. (p ≡ at) × IsEat program.now at) found.old.items found.new.items) }
-{
-    match program.get(at) {
-        None => Ok(()),
-        Some(step) => {
-            if eats(*step) {
-                found.push(at)?;
-            }
-            Ok(())
-        }
-    }
-}
-
-/// Finds the steps of the list that take a byte.
-fn find_eating(
-    program: &[Instruction],
-    list: &[usize],
-    found: &mut Vec<usize>,
-) -> Result<(), AllocError>
-    ensures { OnOk result (AreEating program.now list.now found.new.items) }
-{
-    found.clear();
-    for at in list {
-        push_eating(program, *at, found)?;
-    }
-    Ok(())
 }
 
 /// A hash of the kernel.
@@ -560,12 +321,6 @@ impl<'a> Maker<'a> {
     }
 }
 
-pub fn has_done(list: &[usize]) -> bool
-    ensures { (result ≡ true) ↔ Contains list.now 0 }
-{
-    list.contains(&0)
-}
-
 /// The best end so far, where it is told whether a match ends at the place.
 pub fn noted(accept: bool, place: usize, best: Option<usize>) -> Option<usize>
     ensures { result ≡ (if accept then Some place else best) }
@@ -584,88 +339,6 @@ fn accepting(alloc: Global, lists: &StepLists, count: usize) -> Result<Vec<bool>
         flags.push(has_done(lists.list(at)))?;
     }
     Ok(flags)
-}
-
-/// Whether a match ends at the steps of the list where the text ends.
-fn ends_in(program: &[Instruction], list: &[usize], room: &mut Room) -> Result<bool, AllocError>
-    requires sound { IsSound program.now }
-    requires some { 0 < length program.now }
-    requires room { IsRoom program.now room.old }
-    ensures ends { IfOk result (λ b. (b ≡ true) ↔ EndsAtLast program.now list.now) }
-    ensures room { OnOk result (IsRoom program.now room.new) }
-{
-    lead(program, AT_LAST, list, room)?;
-    let ends = room.starts.least(0) < NONE;
-    room.starts.clear();
-    Ok(ends)
-}
-
-/// The same, with room of its own.
-pub fn ends_at_last(
-    alloc: Global,
-    program: &[Instruction],
-    list: &[usize],
-) -> Result<bool, AllocError>
-    requires sound { IsSound program.now }
-    requires some { 0 < length program.now }
-    ensures { IfOk result (λ b. (b ≡ true) ↔ EndsAtLast program.now list.now) }
-{
-    let mut room = Room::new(alloc, program.len())?;
-    let ends = ends_in(program, list, &mut room)?;
-    Ok(ends)
-}
-
-/// Whether the step waits for the text's end.
-fn waits(step: Instruction) -> bool
-    ensures { result ≡ is_at_end step }
-{
-    match step {
-        Instruction::AtEnd(_) => true,
-        Instruction::Eat(_, _)
-        | Instruction::Fork(_, _)
-        | Instruction::AtStart(_)
-        | Instruction::Done
-        | Instruction::Hole => false,
-    }
-}
-
-/// The same of the step with this number, where the program has it.
-fn waits_at(program: &[Instruction], at: usize) -> bool
-    ensures { result ≡ false → (x : Instruction) → slice_get program.now at ≡ Some x → is_at_end x ≡ false }
-{
-    match program.get(at) {
-        None => false,
-        Some(step) => waits(*step),
-    }
-}
-
-/// Whether a step of the list waits for the text's end.
-fn some_wait(program: &[Instruction], list: &[usize]) -> bool
-    ensures { result ≡ false → NoneWait program.now list.now }
-{
-    for at in list {
-        if waits_at(program, *at) {
-            return true;
-        }
-    }
-    false
-}
-
-/// Whether a match ends at the steps of a state where the text ends. Only a step that waits for the end leads on there.
-fn state_ends(program: &[Instruction], list: &[usize], room: &mut Room) -> Result<bool, AllocError>
-    requires sound { IsSound program.now }
-    requires some { 0 < length program.now }
-    requires closed { IsClosedList program.now list.now }
-    requires room { IsRoom program.now room.old }
-    ensures ends { IfOk result (λ b. (b ≡ true) ↔ EndsAtLast program.now list.now) }
-    ensures room { OnOk result (IsRoom program.now room.new) }
-{
-    if some_wait(program, list) {
-        let ends = ends_in(program, list, room)?;
-        Ok(ends)
-    } else {
-        Ok(has_done(list))
-    }
 }
 
 /// In which of the first states a match ends where the text ends.
@@ -690,112 +363,6 @@ fn ending(
         flags.push(flag)?;
     }
     Ok(flags)
-}
-
-/// Makes each byte an edge at which the set ends or begins.
-fn add_set_edges(set: &Set, edges: &mut [bool; 256])
-    ensures kept { (b : ℕ) → has edges.new b ≡ false → has edges.old b ≡ false }
-    ensures edges { (b : ℕ) → b + 1 < 256 → has edges.new (b + 1) ≡ false → has set.now (b + 1) ≡ has set.now b }
-{
-    for byte in 1..256usize {
-        edges[byte] = edges[byte] | (set[byte] != set[byte - 1]);
-    }
-}
-
-/// Makes the byte an edge, and the one behind it.
-fn add_byte_edges(byte: u8, edges: &mut [bool; 256])
-    ensures kept { (b : ℕ) → has edges.new b ≡ false → has edges.old b ≡ false }
-    ensures edges { (b : ℕ) → b + 1 < 256 → has edges.new (b + 1) ≡ false → (b + 1 ≢ byte) × (b ≢ byte) }
-{
-    edges[byte as usize] = true;
-    if byte < 255 {
-        edges[byte as usize + 1] = true;
-    }
-}
-
-/// Makes each byte an edge at which the class ends or begins.
-fn add_class_edges(sets: &[Set], class: Class, edges: &mut [bool; 256])
-    ensures kept { (b : ℕ) → has edges.new b ≡ false → has edges.old b ≡ false }
-    ensures edges { (b : ℕ) → b + 1 < 256 → has edges.new (b + 1) ≡ false → holds sets.now class (b + 1)
-        ≡ holds sets.now class b }
-{
-    match class {
-        Class::One(byte) => add_byte_edges(byte, edges),
-        Class::Any => {}
-        Class::In(number) => match sets.get(number) {
-            Some(set) => add_set_edges(set, edges),
-            None => {}
-        },
-    }
-}
-
-/// Makes each byte an edge over which the step goes on otherwise than over the one before it.
-#[tactic(auto, unfolding(crate::specs::Search::target_of))]
-fn add_edges(sets: &[Set], step: Instruction, edges: &mut [bool; 256])
-    ensures kept { (b : ℕ) → has edges.new b ≡ false → has edges.old b ≡ false }
-    ensures edges { (b : ℕ) → b + 1 < 256 → has edges.new (b + 1) ≡ false → target_of sets.now (b + 1) step
-        ≡ target_of sets.now b step }
-{
-    match step {
-        Instruction::Eat(class, _) => add_class_edges(sets, class, edges),
-        Instruction::Fork(_, _)
-        | Instruction::AtStart(_)
-        | Instruction::AtEnd(_)
-        | Instruction::Done
-        | Instruction::Hole => {}
-    }
-}
-
-/// The bytes over which some step goes on otherwise than over the one before.
-fn edges(sets: &[Set], program: &[Instruction]) -> [bool; 256]
-    ensures { AreEdges sets.now program.now result }
-{
-    let mut edges = [false; 256];
-    edges[0] = true;
-    for step in program {
-        add_edges(sets, *step, &mut edges);
-    }
-    edges
-}
-
-/// The same for the step with this number, where the program has it.
-fn add_edges_at(sets: &[Set], program: &[Instruction], at: usize, edges: &mut [bool; 256])
-    ensures kept { (b : ℕ) → has edges.new b ≡ false → has edges.old b ≡ false }
-    ensures edges { (x : Instruction) (b : ℕ) → slice_get program.now at ≡ Some x → b + 1 < 256
-        → has edges.new (b + 1) ≡ false → target_of sets.now (b + 1) x ≡ target_of sets.now b x }
-{
-    match program.get(at) {
-        None => {}
-        Some(step) => add_edges(sets, *step, edges),
-    }
-}
-
-/// The bytes over which some step of the list goes on otherwise than over the one before.
-fn list_edges(sets: &[Set], program: &[Instruction], list: &[usize]) -> [bool; 256]
-    ensures { AreListEdges sets.now program.now list.now result }
-{
-    let mut edges = [false; 256];
-    edges[0] = true;
-    for at in list {
-        add_edges_at(sets, program, *at, &mut edges);
-    }
-    edges
-}
-
-/// For each byte the last one, from it on, before which there is no edge.
-fn alike(edges: &[bool; 256]) -> [u8; 256]
-    ensures { AreRuns edges.now result }
-{
-    let mut last = [255u8; 256];
-    for passed in 1..256usize {
-        let byte = 255 - passed;
-        if edges[byte + 1] {
-            last[byte] = byte as u8;
-        } else {
-            last[byte] = last[byte + 1];
-        }
-    }
-    last
 }
 
 /// The states in which a search begins, at the text's start and later.

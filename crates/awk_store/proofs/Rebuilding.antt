@@ -46,7 +46,8 @@ module _ (g : Given) (old : Whole) where
   }
 
   pub rebuild_moves : (place : Place) (fs : List Field)
-      → length (row.rebuilt (kept.own_text old.0 own.Ofs) fs) ≤ most_bytes → (k : List Piece) (hid : Hidden) (c : Course) → Agreeing g old hid c →
+      → length (row.rebuilt (kept.own_text old.0 own.Ofs) fs) ≤ most_bytes
+      → (k : List Piece) (hid : Hidden) (c : Course) → Agreeing g old hid c →
       advance g (Do (Rebuild place fs) ∷ k) (seen (base g old hid) c)
       ≡ Goes k (seen (base g old (record hid { row = rebuilt old fs })) c)
   rebuild_moves place fs fits k hid c a = rw (
@@ -55,7 +56,8 @@ module _ (g : Given) (old : Whole) where
   ) refl
 
   pub rebuild_faults : (place : Place) (fs : List Field)
-      → most_bytes < length (row.rebuilt (kept.own_text old.0 own.Ofs) fs) → (k : List Piece) (hid : Hidden) (c : Course) → Agreeing g old hid c →
+      → most_bytes < length (row.rebuilt (kept.own_text old.0 own.Ofs) fs)
+      → (k : List Piece) (hid : Hidden) (c : Course) → Agreeing g old hid c →
       advance g (Do (Rebuild place fs) ∷ k) (seen (base g old hid) c) ≡ Goes (ends (Faulted fault.TextTooLong place))
       (seen (base g old hid) c)
   rebuild_faults place fs over k hid c a = rw (

@@ -17,8 +17,8 @@ use Rattle.awk_text.specs.declared.value.Value.TheVariants as v
 use Rattle.awk_program.specs.Slots.{Text}
 use Rattle.awk_program.specs.declared.variables.Own.TheVariants as own
 use Rattle.awk_machine.specs.Pieces as machine
-use Rattle.awk_machine.specs.Pieces.{Piece, Do, Get, Set, Whole as SetWhole, Check, Rebuild, Goes, Seeks, give, granted, ends}
-use Rattle.awk_machine.specs.Pieces.{Faulted}
+use Rattle.awk_machine.specs.Pieces.{Piece, Do, Get, Set, Whole as SetWhole, Check, Rebuild, Goes, Seeks, give, ends}
+use Rattle.awk_machine.specs.Pieces.{Faulted, granted}
 use Rattle.awk_machine.specs.Questions.{Fields, Spells, Is, These, these, yes}
 use Rattle.awk_machine.specs.Advances.{advance, held}
 use Rattle.awk_machine.specs.State.{Course, Given}
@@ -241,9 +241,11 @@ module _ (g : Given) (old : Whole) (place : Place) (val shown : Value) (is : kep
       let here : s.place ≡ m = the_place s.place m (sym s.place_is ∙ place_so) in
       let vs = with_field s.fields m (field val shown) in
       let fits' : length (rebuilt_text (kept.own_text old.0 own.Ofs) vs) ≤ most_bytes =
-      subst (λ n. length (rebuilt_text (kept.own_text old.0 own.Ofs) (with_field s.fields n (field val shown))) ≤ most_bytes) here
+      subst (λ n. length (rebuilt_text (kept.own_text old.0 own.Ofs) (with_field s.fields n (field val shown)))
+      ≤ most_bytes) here
       s.after.fits in
-      let new_is : new.row ≡ rebuilt old vs = subst (λ n. new.row ≡ rebuilt old (with_field s.fields n (field val shown))) here
+      let new_is : new.row ≡ rebuilt old vs =
+      subst (λ n. new.row ≡ rebuilt old (with_field s.fields n (field val shown))) here
       s.after.new_is in
       subst (λ (x : Kept). Acts g field_task goes_on old (Ok (tt {0})) (x, old.1)) (sym same)
       (done (alters refl (asked s.fields s.before) (λ k hid c a. (
@@ -262,7 +264,8 @@ module _ (g : Given) (old : Whole) (place : Place) (val shown : Value) (is : kep
       subst (λ (x : Kept). Acts g field_task (goes_on {A = Unit {0}}) old (Err (halt_at place met)) (x, old.1))
       (sym same) (faulted refl (why_so why))
     where
-      why_so : SetsNoField old.0.row (pos (suc m)) (field val shown) (kept.own_text old.0 own.Ofs) met → (met ≡ fault.Memory)
+      why_so : SetsNoField old.0.row (pos (suc m)) (field val shown) (kept.own_text old.0 own.Ofs) met
+          → (met ≡ fault.Memory)
           ⊎ Passes g field_task old (λ k. ends (Faulted met place)) (changes.with_row new.row old.0, old.1)
       why_so (inl x) = inl x
       why_so (inr (inl (x, none))) = absurd (not_both (sym place_so ∙ none))
@@ -271,8 +274,10 @@ module _ (g : Given) (old : Whole) (place : Place) (val shown : Value) (is : kep
           not_both e = cc
       why_so (inr (inr (x, (n, vs, is_place, has, over)))) =
           let here : n ≡ m = the_place n m (sym is_place ∙ place_so) in
-          let over' : most_bytes < length (rebuilt_text (kept.own_text old.0 own.Ofs) (with_field vs m (field val shown))) =
-          subst (λ j. most_bytes < length (rebuilt_text (kept.own_text old.0 own.Ofs) (with_field vs j (field val shown)))) here over in
+          let over' : most_bytes < length (rebuilt_text (kept.own_text old.0 own.Ofs)
+          (with_field vs m (field val shown))) =
+          subst (λ j. most_bytes < length (rebuilt_text (kept.own_text old.0 own.Ofs)
+          (with_field vs j (field val shown)))) here over in
           inr (keeps refl (λ hid. refl) (agreeing_row g old new.row kept_row)
           (reworded {to = λ k. ends (Faulted fault.TextTooLong place)}
           (moves (asked vs has) (rebuild_faults g old place (with_field vs m (field val shown)) over'))

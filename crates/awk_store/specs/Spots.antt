@@ -28,7 +28,8 @@ value_of (s.Field n) = of_count n
 abbrev pub IsSpotOf : Names → p.Reference → Spot → Type 0
 IsSpotOf names r x = target r (value_of x) ≡ meant names x
 
--- what an assignment to it gives: for NF it is always a number, and for `$0` input unless it is a number with a fraction
+-- what an assignment to it gives: for NF it is always a number, and for `$0` input unless it is a number with a
+-- fraction
 abbrev pub stored : Numbers → Spot → Value → Value
 stored numbers (s.Variable x) val = if kept.is_nf x then as_number (whole_number numbers val) else val
 stored numbers (s.Element place x key) val = val

@@ -32,8 +32,8 @@ pub fn shown_number(alloc: Global, store: &Store, number: f64) -> Result<Option<
     number_by(alloc, store.numbers(), by, number)
 }
 
-/// The value, and of a number with a fraction the text that CONVFMT makes of it. A whole number has its digits, whatever
-/// CONVFMT is.
+/// The value, and of a number with a fraction the text that CONVFMT makes of it. A whole number has its digits,
+/// whatever CONVFMT is.
 ///
 /// Fails as [`shown_number`] does.
 pub fn as_text(alloc: Global, store: &Store, value: Value) -> Result<Value, Fault>

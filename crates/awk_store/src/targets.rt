@@ -44,12 +44,13 @@ pub fn read(store: &mut Store, target: &Spot) -> Result<Value, Halt>
     }
 }
 
-/// The text that it holds, lent, where that is there, reading it changes nothing, and CONVFMT has no say: of `$0` unless
-/// it is to be rebuilt, of an element, and of a variable that is not NF. Takes no memory.
+/// The text that it holds, lent, where that is there, reading it changes nothing, and CONVFMT has no say: of `$0`
+/// unless it is to be rebuilt, of an element, and of a variable that is not NF. Takes no memory.
 pub fn lent<'a>(store: &'a Store, target: &Spot, buffer: &'a mut Buffer) -> Option<&'a [u8]>
     ensures { IfSome result
         (λ text. (g : Given) (t : Table) → (x : Value) × (by_convfmt store.now x ≡ Ok x)
-        × (values.text_of x ≡ text.now) × Passes g (Do (Get (meant (names_in g) target.now))) (store.now, t) (give x) (store.now, t)) }
+        × (values.text_of x ≡ text.now)
+        × Passes g (Do (Get (meant (names_in g) target.now))) (store.now, t) (give x) (store.now, t)) }
 {
     match target {
         Spot::Variable(variable) => {
@@ -133,8 +134,8 @@ fn as_record(alloc: Global, value: &Value) -> Result<Value, Fault>
     }
 }
 
-/// What an assignment of the value to the target gives: for NF it is always a whole number, and for `$0` input unless it
-/// is a number with a fraction. A long text is shared.
+/// What an assignment of the value to the target gives: for NF it is always a whole number, and for `$0` input unless
+/// it is a number with a fraction. A long text is shared.
 ///
 /// Fails where memory is refused.
 pub fn stored(

@@ -1,5 +1,5 @@
 // Assignments that are done at once: what they need is at hand, and their value is not wanted.
-ghost use Rattle.awk_builtins.specs.AtHand.{IsDone, IsThere};
+ghost use Rattle.awk_builtins.specs.AtHand.{ChangesAt, IsDone};
 ghost use Rattle.awk_machine.specs.Expressions.{either};
 ghost use Rattle.awk_machine.specs.Forms.{value};
 ghost use Rattle.awk_machine.specs.Operators as machine;
@@ -7,7 +7,7 @@ ghost use Rattle.awk_machine.specs.Pieces.{Piece, give};
 ghost use Rattle.awk_machine.specs.State.{Given};
 ghost use Rattle.awk_program.specs.Program as p;
 ghost use Rattle.awk_program.specs.Program.{expressions_of};
-ghost use Rattle.awk_program.specs.View.{Names, variable_of, view, view_target};
+ghost use Rattle.awk_program.specs.View.{variable_of, view, view_target};
 ghost use Rattle.awk_program.specs.declared.operators.StepValue.{StepValue as Which};
 ghost use Rattle.awk_store.specs.Acts.{Acts, Passes};
 ghost use Rattle.awk_store.specs.Kept as kept;
@@ -16,9 +16,8 @@ ghost use Rattle.awk_streams.specs.Tables.{Table};
 ghost use Rattle.awk_numbers.specs.declared.number.Number.TheVariants as number;
 ghost use Rattle.awk_numbers.specs.declared.number.Numbers.{Numbers as Profile};
 ghost use Rattle.awk_text.specs.Arithmetic.{add};
-ghost use Rattle.awk_text.specs.Values.{number_of, of_number};
-ghost use Rattle.awk_text.specs.declared.value.Value.{Value as Val};
-ghost use Rattle.std.specs.Prelude.{ℤ, IfSome, None, Ok, false, map, true, ◌∷◌, ◌≡◌};
+ghost use Rattle.awk_text.specs.Values.{of_number};
+ghost use Rattle.std.specs.Prelude.{ℤ, IfSome, None, false, map, true, ◌∷◌, ◌≡◌};
 
 use crate::at_hand::elements::{added_at, key_at_hand, number_of_key, put_at_number};
 use crate::at_hand::records::{is_keyed_by_field, is_unsplit, split_record, wants_split};
@@ -209,11 +208,7 @@ fn changed_at(
     keys: &[Expr],
     operand: Number,
 ) -> bool
-    ensures done { result ≡ true → (x : Names → p.Expression) (val : Val) → IsThere x store.old val →
-        number_of store.old.numbers val ≡ Ok operand → (place at_name : Place) →
-        IsDone (λ names. p.change place how
-        (p.element at_name (variable_of names array) (expressions_of (map (view names) keys.now))) (x names))
-        store.old store.new }
+    ensures done { result ≡ true → ChangesAt how array keys.now operand store.old store.new }
     ensures not_done { result ≡ false → store.new ≡ store.old }
 {
     let Some(key) = key_at_hand(store, line, keys) else {
@@ -243,11 +238,7 @@ fn added_whole(
     keys: &[Expr],
     operand: Number,
 ) -> bool
-    ensures done { result ≡ true → (x : Names → p.Expression) (val : Val) → IsThere x store.old val →
-        number_of store.old.numbers val ≡ Ok operand → (place at_name : Place) →
-        IsDone (λ names. p.change place how
-        (p.element at_name (variable_of names array) (expressions_of (map (view names) keys.now))) (x names))
-        store.old store.new }
+    ensures done { result ≡ true → ChangesAt how array keys.now operand store.old store.new }
     ensures not_done { result ≡ false → store.new ≡ store.old }
 {
     let Operator::Add = how else {

@@ -1,5 +1,5 @@
 use Rattle.std.proofs.Common.{◌≡◌, ◌↔◌, true, sym, subst, arith}
-use Rattle.awk_ere.specs.Making.{IsClosedList}
+use Rattle.awk_ere.specs.Closure.{IsClosedList}
 use Rattle.awk_ere.specs.Table.{steps_of, AreFlags, EndsAtLast}
 use Rattle.awk_ere.proofs.Gathering.{flags_begin, flags_push}
 use Rattle.awk_ere.proofs.states.ending.Goals as goal

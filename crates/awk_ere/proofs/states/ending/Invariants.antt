@@ -1,4 +1,4 @@
-use Rattle.awk_ere.specs.Making.{IsRoom}
+use Rattle.awk_ere.specs.Closure.{IsRoom}
 use Rattle.awk_ere.specs.Table.{steps_of, AreFlags, EndsAtLast}
 use Rattle.awk_ere.proofs.states.ending.Given as goal
 

@@ -10,7 +10,8 @@ returns-clause-made c =
     (rw c.deref-2.ensures.value at c.in_ok-state.ensures.number) in
     record {
       room = c.in_ok-find_led.ensures.room;
-      by = made_push _ _ _ _ _ _ _ _ (rw c.deref-3.ensures.value at c.in_ok-push.ensures) c.in_ok-push-2.ensures.items is
+      by = made_push _ _ _ _ _ _ _ _ (rw c.deref-3.ensures.value at c.in_ok-push.ensures)
+          c.in_ok-push-2.ensures.items is
           (made_later _ _ _ _ _ (grown_later _ _ _ c.in_ok-state.ensures.grown) c.requires.made.by);
       slots = c.requires.made.slots;
       closed = closed_grown _ _ _ _ c.in_ok-state.ensures.grown

@@ -1,5 +1,5 @@
 use Rattle.std.proofs.Common.{refl, ◌∙◌, subst, arith}
-use Rattle.awk_ere.specs.Making.{AreEating}
+use Rattle.awk_ere.specs.Closure.{AreEating}
 use Rattle.awk_ere.specs.Table.{IsKnown}
 use Rattle.awk_ere.proofs.Gathering.{later_self, later_then}
 use Rattle.awk_ere.proofs.Making.{known_eating, row_begins, row_more, row_same}
@@ -8,7 +8,12 @@ use Rattle.awk_ere.proofs.states.Maker.row.Goals as goal
 
 pub loop-byte-init : goal.loop-byte-init
 loop-byte-init c = record {
-  made = record { room = c.requires.made.room; by = c.requires.made.by; slots = c.requires.made.slots; closed = c.requires.made.closed };
+  made = record {
+    room = c.requires.made.room;
+    by = c.requires.made.by;
+    slots = c.requires.made.slots;
+    closed = c.requires.made.closed;
+  };
   later = later_self _;
   eats = refl;
   inside = omega arith;

@@ -1,5 +1,0 @@
-use Rattle.awk_ere.proofs.Making.{AreEdgesSoFar}
-use Rattle.awk_ere.proofs.states.list_edges.Given as goal
-
-abbrev pub invariant-loop-at : goal.invariant-loop-at
-invariant-loop-at l = AreEdgesSoFar l.sets l.program l.list l.at-index l.edges
