@@ -87,8 +87,9 @@ pub fn set_field(
     if number == 0 {
         return set_whole(alloc, store, place, value);
     }
-    match value {
-        Value::Real(real) => set_number(alloc, store, number, place, real),
-        other => at(place, store.set_field(i64::from(number), other)),
+    // A value is moved no more often than it has to be.
+    if let Value::Real(real) = &value {
+        return set_number(alloc, store, number, place, *real);
     }
+    at(place, store.set_field(i64::from(number), value))
 }

@@ -17,6 +17,7 @@ ghost use Rattle.std.specs.Prelude.{IfSome, Ok, Some, false, length, map, ◌≡
 
 use crate::functions::{cased, index_of, part_of, text_length};
 use crate::operators::operation;
+use crate::shown::operand_of;
 use awk_fields::row::LEAST_SHARED;
 use awk_numbers::number::{Number, Numbers};
 use awk_program::{Builtin, Expr, Target, Term, Variable};
@@ -180,8 +181,8 @@ fn element_at_hand<'a>(
     let [one] = keys else {
         return None;
     };
-    let subscript = at_hand(store, one, level)?;
-    let value = element_by(store, array, subscript)?;
+    let subscript = at_hand(store, operand_of(one), level)?;
+    let value = element_by(store, array, unless_shown(store, subscript)?)?;
     Some(Lent::of(value))
 }
 

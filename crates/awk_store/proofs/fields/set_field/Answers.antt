@@ -14,8 +14,8 @@ returns-then-number-eq0 c = λ g t. rw c.if-number-eq0.true (c.set_whole.ensures
 pub returns-in-Real : goal.returns-in-Real
 returns-in-Real c = λ g t. rw c.in-Real.is (c.set_number.ensures g t)
 
-pub returns-in_default : goal.returns-in_default
-returns-in_default c = λ g t. rw (c.at.ensures) (number_result g (c.args.store.now, t) c.args.place c.args.value
+pub returns : goal.returns
+returns c = λ g t. rw (c.at.ensures) (number_result g (c.args.store.now, t) c.args.place c.args.value
     c.args.value (stays_unless c.args.store.now c.args.value c.in_default.not-Real) c.args.number
     (omega (arith, c.ranges.number.fits)) c.if-number-eq0.false c.set_field.result c.set_field.new.self
     (rw (c.from.ensures, to_z_pos w64 c.args.number (omega (arith, c.ranges.number.fits))) at

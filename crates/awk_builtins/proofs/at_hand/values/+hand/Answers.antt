@@ -42,13 +42,15 @@ at_hand-returns t c = λ g u.
 
 pub element_at_hand-returns : goal.element_at_hand-returns
 element_at_hand-returns t c = λ g u.
+    let h = c.in_ok-unless_shown.ensures in
+    let sub = lent_value c.in_ok-subscript.subscript in
     rw (
       just_one c.args.keys.now c.one-item.result c.in-len1.len_at_least c.in-len1.len_below c.one-item.is,
       c.of.ensures,
     )
-    (element_there g (c.args.store.now, u) c.args.place c.args.array (view (names_in g) c.one-item.result)
-    (lent_value c.in_ok-subscript.subscript) _ c.in_ok-value.value.now
-    (c.in_ok-subscript.ensures g u) refl c.in_ok-value.ensures.fits c.in_ok-value.ensures.there)
+    (element_there g (c.args.store.now, u) c.args.place c.args.array (view (names_in g) c.one-item.result) sub _
+    c.in_ok-value.value.now (c.operand_of.ensures c.args.store.now sub h.1 c.in_ok-subscript.ensures g u)
+    (ap text_of (sym h.0)) c.in_ok-value.ensures.fits c.in_ok-value.ensures.there)
 
 pub field_at_hand-returns : goal.field_at_hand-returns
 field_at_hand-returns t c =
